@@ -1,0 +1,104 @@
+//! The stored inputs of the check programs, and the outputs the documents give
+//! for them.
+
+mod checksum_cases;
+mod wire_cases;
+
+use std::fs;
+use std::io;
+use std::path::Path;
+
+pub struct StoredFile {
+    /// Below the repository's root.
+    pub path: &'static str,
+    pub bytes: Vec<u8>,
+}
+
+fn stored(path: &'static str, bytes: Vec<u8>) -> StoredFile {
+    StoredFile { path, bytes }
+}
+
+/// Every stored file, as this program computes it.
+pub fn files() -> Vec<StoredFile> {
+    let checksum = checksum_cases::input();
+    let wire = wire_cases::input();
+    vec![
+        stored(
+            "crates/checksum_check/stdout",
+            checksum_cases::output(&checksum),
+        ),
+        stored("crates/checksum_check/stdin", checksum),
+        stored("crates/wire_check/stdout", wire_cases::output(&wire)),
+        stored("crates/wire_check/stdin", wire),
+    ]
+}
+
+/// Writes every stored file below `root`; hands back how many.
+pub fn write(root: &Path) -> io::Result<usize> {
+    let files = files();
+    for file in &files {
+        let path = root.join(file.path);
+        if let Some(folder) = path.parent() {
+            fs::create_dir_all(folder)?;
+        }
+        fs::write(path, &file.bytes)?;
+    }
+    Ok(files.len())
+}
+
+/// Compares the files below `root` with what `write` would put there. Hands
+/// back how many there are, or one line for each that differs or is missing.
+pub fn check(root: &Path) -> Result<usize, Vec<String>> {
+    let files = files();
+    let complaints: Vec<String> = files
+        .iter()
+        .filter_map(|file| complaint(root, file))
+        .collect();
+    if complaints.is_empty() {
+        Ok(files.len())
+    } else {
+        Err(complaints)
+    }
+}
+
+fn complaint(root: &Path, file: &StoredFile) -> Option<String> {
+    match fs::read(root.join(file.path)) {
+        Ok(bytes) if bytes == file.bytes => None,
+        Ok(_) => Some(format!("{} differs", file.path)),
+        Err(error) if error.kind() == io::ErrorKind::NotFound => {
+            Some(format!("{} is missing", file.path))
+        }
+        Err(error) => Some(format!("{} cannot be read: {error}", file.path)),
+    }
+}
+
+#[cfg(test)]
+mod tests {
+    use super::*;
+
+    #[test]
+    fn files_are_the_same_each_time() {
+        for (one, other) in files().iter().zip(&files()) {
+            assert_eq!(one.path, other.path);
+            assert!(one.bytes == other.bytes, "{}", one.path);
+        }
+    }
+
+    #[test]
+    fn check_names_what_differs_and_what_is_missing() {
+        let root = std::env::temp_dir().join(format!("reference-{}", std::process::id()));
+        let count = write(&root).unwrap();
+        assert_eq!(check(&root), Ok(count));
+
+        let (one, other) = ("crates/wire_check/stdout", "crates/checksum_check/stdin");
+        fs::write(root.join(one), "0\n").unwrap();
+        fs::remove_file(root.join(other)).unwrap();
+        let mut complaints = check(&root).unwrap_err();
+        complaints.sort();
+        assert_eq!(
+            complaints,
+            [format!("{other} is missing"), format!("{one} differs")]
+        );
+        fs::remove_dir_all(&root).unwrap();
+    }
+}
