@@ -1,0 +1,5 @@
+-- The laws that the proofs of several functions cite.
+pub mod NumberLaws
+pub mod MatchLaws
+pub mod AskLaws
+pub mod TakeLaws

@@ -1,0 +1,79 @@
+-- A list of calls, and what is heard of each: from the table, and from the model.
+-- Assumes nothing.
+use Prim.Native.Nat.{ℕ}
+use mathlib.Core.List.{List, [], _∷_}
+use lib.IntN.{ℤ}
+use Rattle.inflight.specs.Model.{Model}
+use Rattle.inflight.specs.Model as M
+use Rattle.inflight.specs.Tables as T
+use Rattle.inflight.specs.declared.FrontNumber.{FrontNumber}
+use Rattle.inflight.specs.declared.PublisherNumber.{PublisherNumber}
+use Rattle.inflight.specs.declared.Table.{Table}
+use Rattle.inflight.specs.declared.Key.the-variants.{Closed, Lost}
+use Rattle.inflight.specs.declared.AskAnswer.{AskAnswer}
+use Rattle.inflight.specs.declared.ReplyAnswer.{ReplyAnswer}
+use Rattle.inflight.specs.declared.CancelAnswer.{CancelAnswer}
+use Rattle.inflight.specs.declared.DropAnswer.{DropAnswer}
+
+-- a call with its arguments; closed and lost with the slice that they are lent
+pub data Call : Type 0 where
+  ask : ℕ → FrontNumber → ℕ → Call
+  reply : ℕ → PublisherNumber → Call
+  cancel : ℕ → FrontNumber → Call
+  closed : ℕ → List ℤ → Call
+  lost : ℕ → List ℤ → Call
+
+-- what a call hands back; of closed and lost also the whole slice afterwards
+pub data Heard : Type 0 where
+  asked : AskAnswer → Heard
+  replied : ReplyAnswer → Heard
+  cancelled : CancelAnswer → Heard
+  dropped : DropAnswer → List ℤ → Heard
+
+-- the table: what the contracts of the five functions say
+abbrev pub tableHeard : Table → Call → Heard
+tableHeard t (ask l n p) = asked (T.askOf t l n p .answer)
+tableHeard t (reply p n) = replied (T.replyOf t p n .answer)
+tableHeard t (cancel l n) = cancelled (T.cancelOf t l n .answer)
+tableHeard t (closed l out) = dropped (T.closedOf t l out .answer) (T.closedSliceOf t l out)
+tableHeard t (lost p out) = dropped (T.lostOf t p out .answer) (T.lostSliceOf t p out)
+
+abbrev pub tableAfter : Table → Call → Table
+tableAfter t (ask l n p) = T.askOf t l n p .table
+tableAfter t (reply p n) = T.replyOf t p n .table
+tableAfter t (cancel l n) = T.cancelOf t l n .table
+tableAfter t (closed l out) = T.closedOf t l out .table
+tableAfter t (lost p out) = T.lostOf t p out .table
+
+unfoldable pub tableRun : Table → List Call → List Heard
+tableRun t [] = []
+tableRun t (c ∷ cs) = tableHeard t c ∷ tableRun (tableAfter t c) cs
+
+-- the table after some calls
+unfoldable pub tableAt : Table → List Call → Table
+tableAt t [] = t
+tableAt t (c ∷ cs) = tableAt (tableAfter t c) cs
+
+-- the model: "what our rules give with the book's entries as the tickets"
+abbrev pub modelHeard : Model → Call → Heard
+modelHeard m (ask l n p) = asked (M.askAnswer m l n p)
+modelHeard m (reply p n) = replied (M.replyAnswer m p n)
+modelHeard m (cancel l n) = cancelled (M.cancelAnswer m l n)
+modelHeard m (closed l out) = dropped (M.dropAnswer m (M.noLink l) (Closed l) out) (M.dropSlice m (M.noLink l) (Closed l) out)
+modelHeard m (lost p out) = dropped (M.dropAnswer m (M.noPublisher p) (Lost p) out) (M.dropSlice m (M.noPublisher p) (Lost p) out)
+
+abbrev pub modelAfter : Model → Call → Model
+modelAfter m (ask l n p) = M.ask m l n p
+modelAfter m (reply p n) = M.reply m p n
+modelAfter m (cancel l n) = M.cancel m l n
+modelAfter m (closed l out) = M.closed m l out
+modelAfter m (lost p out) = M.lost m p out
+
+unfoldable pub modelRun : Model → List Call → List Heard
+modelRun m [] = []
+modelRun m (c ∷ cs) = modelHeard m c ∷ modelRun (modelAfter m c) cs
+
+-- the model at a point of the list, after the calls before it
+unfoldable pub modelAt : Model → List Call → Model
+modelAt m [] = m
+modelAt m (c ∷ cs) = modelAt (modelAfter m c) cs

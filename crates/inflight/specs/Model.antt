@@ -1,0 +1,140 @@
+-- The model is document 01's book. It is fed the calls' arguments alone, and shares with the table the types of requests, numbers and
+-- answers. Each call has its refusal number (0: not refused), its answer, and the model after it; a refused call changes nothing.
+-- Assumes nothing.
+use Prim.Native.Nat.{ℕ, _*_}
+use mathlib.Core.Bool.{Bool, not, _&&_}
+use mathlib.Core.List.{List, [], _∷_, _++_}
+use lib.Dec.{eqb, leb, ltb}
+use lib.IntN.{ℤ, pos}
+use lib.ListN.{length, getD, set, replicate}
+use Rattle.wire.specs.Choice.{pick, first}
+use Rattle.inflight.specs.Numbers.{same, after}
+use Rattle.inflight.specs.Matching.{matching, without, load, capacityTaken, nextFree, otherEnds, overFront, blank}
+use Rattle.inflight.specs.declared.FrontNumber.{FrontNumber}
+use Rattle.inflight.specs.declared.PublisherNumber.{PublisherNumber}
+use Rattle.inflight.specs.declared.Request.{Request}
+use Rattle.inflight.specs.declared.Key.{Key}
+use Rattle.inflight.specs.declared.Key.the-variants.{Reply, Cancel, Closed, Lost}
+use Rattle.inflight.specs.declared.AskAnswer.{AskAnswer}
+use Rattle.inflight.specs.declared.AskAnswer.the-variants as A
+use Rattle.inflight.specs.declared.ReplyAnswer.{ReplyAnswer}
+use Rattle.inflight.specs.declared.ReplyAnswer.the-variants as R
+use Rattle.inflight.specs.declared.CancelAnswer.{CancelAnswer}
+use Rattle.inflight.specs.declared.CancelAnswer.the-variants as C
+use Rattle.inflight.specs.declared.DropAnswer.{DropAnswer}
+use Rattle.inflight.specs.declared.DropAnswer.the-variants as D
+
+-- "it keeps its entries in the order of acceptance, and each publisher's last number": here the number after the last, so that the first
+-- number of a fresh table needs no rule of its own
+pub record Model : Type 0 where
+  pub requests : List Request
+  pub next : List PublisherNumber
+
+-- "it starts empty, with the fresh table's first number as each publisher's next"
+unfoldable pub empty : PublisherNumber → Model
+empty n = record { requests = []; next = replicate 8 n }
+
+-- which numbers are out of range: front links 0 to 31, publishers 0 to 7
+abbrev pub noLink : ℕ → Bool
+noLink l = leb 32 l
+
+abbrev pub noPublisher : ℕ → Bool
+noPublisher p = leb 8 p
+
+-- whether a key matches no request
+abbrev pub none : Key → List Request → Bool
+none k es = eqb (length (matching k es)) 0
+
+-- ask: 30, 12, 31, 32, 33, and 0 where it is accepted.
+-- 30: link or publisher out of range. 12: the number is 0. 31: the link has that number in flight already.
+-- 32: the publisher's load is 16 or more. 33: it is 4 or more, and the eight loads, each counted as at least 4, add up to 64
+unfoldable pub askRefusal : Model → ℕ → FrontNumber → ℕ → ℕ
+askRefusal m l n p =
+    first
+    ((noLink l, 30)
+    ∷ (noPublisher p, 30)
+    ∷ (same (n .0) (pos 0), 12)
+    ∷ (not (none (Cancel l n) (m .requests)), 31)
+    ∷ (leb 16 (load (m .requests) p), 32)
+    ∷ (leb 4 (load (m .requests) p) && eqb (capacityTaken (m .requests)) 64, 33)
+    ∷ [])
+    0
+
+-- "a publisher's next number is the last plus one .., passing over any in flight with that publisher"
+abbrev pub given : Model → ℕ → PublisherNumber
+given m p = nextFree (length (m .requests)) (m .requests) p (getD (m .next) p (record { 0 = pos 0 }))
+
+-- "the book adds an entry with that publisher's next number"
+abbrev pub entry : Model → ℕ → FrontNumber → ℕ → Request
+entry m l n p = record { link = l; front = n; publisher = p; number = given m p }
+
+unfoldable pub accept : Model → ℕ → FrontNumber → ℕ → Model
+accept m l n p = record { requests = m .requests ++ entry m l n p ∷ []; next = set (m .next) p (after (given m p)) }
+
+-- "which is the answer"
+unfoldable pub askAnswer : Model → ℕ → FrontNumber → ℕ → AskAnswer
+askAnswer m l n p = pick (eqb (askRefusal m l n p) 0) (A.Accepted (given m p)) (A.Refused (askRefusal m l n p))
+
+unfoldable pub ask : Model → ℕ → FrontNumber → ℕ → Model
+ask m l n p = pick (eqb (askRefusal m l n p) 0) (accept m l n p) m
+
+-- "strikes": the requests that a key matches are removed
+abbrev pub remove : Model → Key → Model
+remove m k = record { requests = without k (m .requests); next = m .next }
+
+-- the request that a key matches
+abbrev pub matched : Model → Key → Request
+matched m k = getD (matching k (m .requests)) 0 blank
+
+-- reply and cancel: 30, 12, 34, and 0 where they find their request.
+-- 30: publisher or link out of range. 12: the number is 0. 34: there is no such request
+unfoldable pub takeRefusal : Model → Bool → ℤ → Key → ℕ
+takeRefusal m range n k = first ((range, 30) ∷ (same n (pos 0), 12) ∷ (none k (m .requests), 34) ∷ []) 0
+
+unfoldable pub taken : Model → Bool → ℤ → Key → Model
+taken m range n k = pick (eqb (takeRefusal m range n k) 0) (remove m k) m
+
+-- "reply strikes the entry of its publisher and number": the answer is its link and front number
+unfoldable pub replyAnswer : Model → ℕ → PublisherNumber → ReplyAnswer
+replyAnswer m p n =
+    pick (eqb (takeRefusal m (noPublisher p) (n .0) (Reply p n)) 0)
+    (R.Front (matched m (Reply p n) .link) (matched m (Reply p n) .front))
+    (R.Refused (takeRefusal m (noPublisher p) (n .0) (Reply p n)))
+
+abbrev pub reply : Model → ℕ → PublisherNumber → Model
+reply m p n = taken m (noPublisher p) (n .0) (Reply p n)
+
+-- "cancel that of its link and number": the answer is its publisher and publisher number
+unfoldable pub cancelAnswer : Model → ℕ → FrontNumber → CancelAnswer
+cancelAnswer m l n =
+    pick (eqb (takeRefusal m (noLink l) (n .0) (Cancel l n)) 0)
+    (C.Publisher (matched m (Cancel l n) .publisher) (matched m (Cancel l n) .number))
+    (C.Refused (takeRefusal m (noLink l) (n .0) (Cancel l n)))
+
+abbrev pub cancel : Model → ℕ → FrontNumber → Model
+cancel m l n = taken m (noLink l) (n .0) (Cancel l n)
+
+-- closed and lost: 30, 16, and 0 where they free their requests.
+-- 30: link or publisher out of range. 16: "these two strike none if the slice has under two numbers for each"
+unfoldable pub dropRefusal : Model → Bool → Key → List ℤ → ℕ
+dropRefusal m range k out = first ((range, 30) ∷ (ltb (length out) (2 * length (matching k (m .requests))), 16) ∷ []) 0
+
+-- "the count is handed back"
+unfoldable pub dropAnswer : Model → Bool → Key → List ℤ → DropAnswer
+dropAnswer m range k out =
+    pick (eqb (dropRefusal m range k out) 0) (D.Count (length (matching k (m .requests)))) (D.Refused (dropRefusal m range k out))
+
+-- "write their other ends, oldest accepted first, two signed 64-bit numbers each, into a lent slice; what lies past them stays"
+unfoldable pub dropSlice : Model → Bool → Key → List ℤ → List ℤ
+dropSlice m range k out = pick (eqb (dropRefusal m range k out) 0) (overFront (otherEnds k (matching k (m .requests))) out) out
+
+-- "numbering goes on"
+unfoldable pub dropped : Model → Bool → Key → List ℤ → Model
+dropped m range k out = pick (eqb (dropRefusal m range k out) 0) (remove m k) m
+
+-- "closed all of its link, lost all of its publisher"
+abbrev pub closed : Model → ℕ → List ℤ → Model
+closed m l out = dropped m (noLink l) (Closed l) out
+
+abbrev pub lost : Model → ℕ → List ℤ → Model
+lost m p out = dropped m (noPublisher p) (Lost p) out

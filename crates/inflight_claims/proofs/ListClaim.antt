@@ -1,0 +1,91 @@
+-- The list claim, proved.
+-- Assumes nothing.
+use mathlib.Core.Path.{_≡_, refl, sym, ap, _∙_}
+use Prim.Native.Nat.{ℕ, _≤_}
+use native.Mathlib.Omega.{arith}
+use mathlib.Core.Bool.{Bool, true, false}
+use lib.Dec.{eqb}
+use lib.IntN.{pos}
+use lib.ListN.{length}
+use borrow.Author.Tests.{eqb-true, eqb-false, eq-eqb, ne-eqb, le-ltb}
+use Rattle.wire.specs.Choice.{pick}
+use Rattle.inflight.specs.Matching.{matching, load, capacityTaken}
+use Rattle.inflight.specs.Model.{Model, empty, askRefusal, askAnswer, given}
+use Rattle.inflight.specs.Tables.{freshOf}
+use Rattle.inflight.specs.Calls.{modelRun, modelAt}
+use Rattle.inflight.specs.declared.FrontNumber.{FrontNumber}
+use Rattle.inflight.specs.declared.PublisherNumber.{PublisherNumber}
+use Rattle.inflight.specs.declared.AskAnswer.the-variants.{Accepted, Refused}
+use Rattle.inflight.specs.declared.Key.the-variants.{Reply}
+use Rattle.inflight.proofs.NumberLaws.{ne-same}
+use Rattle.inflight.proofs.AskLaws.{Applies, ask-full, ask-under, ask-gone, ask-left}
+use Rattle.inflight_claims.specs.ListClaim.{Valid, Capacity, Kept, Listed}
+use Rattle.inflight_claims.proofs.Invariant.{Ranged, Invariant, inv-empty, inv-at, new-number}
+use Rattle.inflight_claims.proofs.Same.{run-same, fresh-model}
+
+module _ (m : Model) (l : ℕ) (n : FrontNumber) (p : ℕ) where
+  pub answer-yes : askRefusal m l n p ≡ 0 → askAnswer m l n p ≡ Accepted (given m p)
+  unfolding askAnswer
+  answer-yes e = rw (eq-eqb (askRefusal m l n p) 0 e)
+
+  pub answer-no : (k : ℕ) → askRefusal m l n p ≡ k → (k ≡ 0 → ⊥) → askAnswer m l n p ≡ Refused k
+  unfolding askAnswer
+  answer-no k e h = rw (e, ne-eqb k 0 h)
+
+  -- an accepted ask is not refused, and its answer is the number given
+  pub answer-accepted : (x : PublisherNumber) → askAnswer m l n p ≡ Accepted x → (askRefusal m l n p ≡ 0) × (given m p ≡ x)
+  unfolding askAnswer
+  answer-accepted x = go (eqb (askRefusal m l n p) 0) refl
+    where
+      go : (y : Bool) → eqb (askRefusal m l n p) 0 ≡ y → pick y (Accepted (given m p)) (Refused (askRefusal m l n p)) ≡ Accepted x
+          → (askRefusal m l n p ≡ 0) × (given m p ≡ x)
+      go true e h = (eqb-true (askRefusal m l n p) 0 e, cc)
+      go false e h = let z : _≡_ {A = ℕ} 0 1 = cc in absurd (omega arith)
+
+-- the sentences on capacity
+pub capacity : (m : Model) (l : ℕ) (n : FrontNumber) (p : ℕ) → Valid m l n p → Capacity m l n p
+capacity m l n p v =
+    record {
+      under = λ h. answer-yes m l n p (ask-under applies h);
+      gone = λ h k t. answer-no m l n p 33 (ask-gone applies h (omega arith) t) (λ q. omega arith);
+      only = λ h k a. only h k (eqb (capacityTaken (m .requests)) 64) refl a;
+      left = left;
+      full = λ h. answer-no m l n p 32 (ask-full applies (omega arith)) (λ q. omega arith);
+    }
+  where
+    applies : Applies m l n p
+    applies = record { link = v .link; publisher = v .publisher; number = ne-same (n .0) (pos 0) (v .number); own = v .own }
+
+    left : 4 ≤ load (m .requests) p → load (m .requests) p ≤ 15 → (capacityTaken (m .requests) ≡ 64 → ⊥) → askAnswer m l n p ≡ Accepted (given m p)
+    left h k t = answer-yes m l n p (ask-left applies h (omega arith) t)
+
+    only : 4 ≤ load (m .requests) p → load (m .requests) p ≤ 15 → (y : Bool) → eqb (capacityTaken (m .requests)) 64 ≡ y
+        → askAnswer m l n p ≡ Refused 33 → capacityTaken (m .requests) ≡ 64
+    only h k true e a = eqb-true (capacityTaken (m .requests)) 64 e
+    only h k false e a =
+        let b = left h k (eqb-false (capacityTaken (m .requests)) 64 e) in
+        let z : _≡_ {A = ℕ} 0 1 = cc in
+        absurd (omega arith)
+
+pub kept : (m : Model) → Invariant m → Kept m
+kept m f =
+    record {
+      capacity = λ l n p v. capacity m l n p v;
+      most = f .bounded .most;
+      within = f .bounded .within;
+      once = f .once;
+      frontOnce = f .frontOnce;
+      new = λ l n p x a.
+          let e = answer-accepted m l n p x a in
+          ap (λ (y : PublisherNumber). length (matching (Reply p y) (m .requests))) (sym (e .1)) ∙ new-number m l n p f (e .0);
+    }
+
+pub listed : Listed
+listed n a b cs =
+    let first : PublisherNumber = record { 0 = pos n } in
+    let r : Ranged first = record { at = n; is = refl; low = a; high = b } in
+    let e = fresh-model first (le-ltb n 1 a) in
+    record {
+      heard = run-same cs (freshOf first .table) (rw e (inv-empty first r)) ∙ ap (λ (m : Model). modelRun m cs) e;
+      kept = λ before rest q. kept (modelAt (empty first) before) (inv-at first r before);
+    }

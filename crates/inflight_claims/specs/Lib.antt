@@ -1,0 +1,5 @@
+-- The statements.
+pub mod ListClaim
+pub mod Delivery
+pub mod StarredLoads
+pub mod EveryTable
