@@ -10,7 +10,7 @@ impl Generator {
         Generator(seed.wrapping_mul(0x9E37_79B9_7F4A_7C15) | 1)
     }
 
-    pub fn next(&mut self) -> u64 {
+    pub fn draw(&mut self) -> u64 {
         self.0 ^= self.0 >> 12;
         self.0 ^= self.0 << 25;
         self.0 ^= self.0 >> 27;
@@ -19,11 +19,11 @@ impl Generator {
 
     /// A number from 0 to `end - 1`. Taken from the upper bits, the better ones.
     pub fn below(&mut self, end: u64) -> u64 {
-        (self.next() >> 16) % end
+        (self.draw() >> 16) % end
     }
 
     pub fn byte(&mut self) -> u8 {
-        (self.next() >> 56) as u8
+        (self.draw() >> 56) as u8
     }
 
     pub fn bytes(&mut self, n: usize) -> Vec<u8> {

@@ -3,6 +3,13 @@
 //! the two agree, they agree because both follow the documents.
 
 pub mod checksum;
+pub mod event;
 pub mod generator;
+pub mod link;
+pub mod message;
 pub mod numbers;
+pub mod refusal;
 pub mod stored;
+pub mod table;
+pub mod traffic;
+pub mod walk;

@@ -2,6 +2,25 @@
 //! for them.
 
 mod checksum_cases;
+mod link_bodies;
+mod link_cases;
+mod link_closing;
+mod link_fronts;
+mod link_openings;
+mod link_pings;
+mod link_random;
+mod link_sending;
+mod link_talk;
+mod link_turns;
+mod message_bodies;
+mod message_cases;
+mod message_headers;
+mod message_reads;
+mod message_texts;
+mod message_writes;
+mod records;
+mod walk_cases;
+mod walk_scripts;
 mod wire_cases;
 
 use std::fs;
@@ -22,6 +41,10 @@ fn stored(path: &'static str, bytes: Vec<u8>) -> StoredFile {
 pub fn files() -> Vec<StoredFile> {
     let checksum = checksum_cases::input();
     let wire = wire_cases::input();
+    let example = walk_cases::example_input();
+    let walk = walk_cases::input();
+    let message = message_cases::input();
+    let link = link_cases::input();
     vec![
         stored(
             "crates/checksum_check/stdout",
@@ -30,6 +53,20 @@ pub fn files() -> Vec<StoredFile> {
         stored("crates/checksum_check/stdin", checksum),
         stored("crates/wire_check/stdout", wire_cases::output(&wire)),
         stored("crates/wire_check/stdin", wire),
+        stored(
+            "crates/relay_walk/stdout",
+            walk_cases::example_output(&example),
+        ),
+        stored("crates/relay_walk/stdin", example),
+        stored("crates/walk_check/stdout", walk_cases::output(&walk)),
+        stored("crates/walk_check/stdin", walk),
+        stored(
+            "crates/message_check/stdout",
+            message_cases::output(&message),
+        ),
+        stored("crates/message_check/stdin", message),
+        stored("crates/link_check/stdout", link_cases::output(&link)),
+        stored("crates/link_check/stdin", link),
     ]
 }
 

@@ -14,7 +14,7 @@ use crate::sign::bits32;
 use crate::sign::bits64;
 use wire::left;
 
-fn put_u8(d: &mut [u8], at: usize, n: u8)
+pub fn put_u8(d: &mut [u8], at: usize, n: u8)
     ensures { λ _. ⌜ now (d .exit) ≡ sets (now (d .entry)) at (bytes 1 n) ⌝ }
 {
     if at < d.len() {

@@ -168,6 +168,17 @@ bytes-more (suc j) n m =
 pub bytes-low : (j n : ℕ) → bytes j (n % 256 ^ j) ≡ bytes j n
 bytes-low j n = sym (bytes-more j (n % 256 ^ j) (n / 256 ^ j)) ∙ ap (bytes j) (mod-add-div n (256 ^ j))
 
+-- zeros spell 0, and are the bytes of 0
+pub le-zeros : (k : ℕ) → le (replicate k 0) ≡ 0
+unfolding le
+le-zeros zero = refl
+le-zeros (suc k) = rw (le-zeros k)
+
+pub bytes-zero : (k : ℕ) → bytes k 0 ≡ replicate k 0
+unfolding bytes
+bytes-zero zero = refl
+bytes-zero (suc k) = ap (λ (t : List ℕ). 0 ∷ t) (bytes-zero k)
+
 -- ---- reading what was stored
 
 -- the middle of a list

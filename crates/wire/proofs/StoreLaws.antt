@@ -24,6 +24,16 @@ sets-then d i j a b e = rw e (sets-append d i a b)
 pub runs-2 : {d₁ d₂ : List ℕ} (d : List ℕ) (i j : ℕ) (a b : List ℕ) → d₁ ≡ sets d i a → d₂ ≡ sets d₁ j b → j ≡ i + length a → d₂ ≡ sets d i (a ++ b)
 runs-2 d i j a b e₁ e₂ p = rw (e₂, e₁) (sets-then d i j a b p)
 
+-- and of those that three or four calls leave, one after another
+pub runs-3 : {d₁ d₂ d₃ : List ℕ} (d : List ℕ) (i j k : ℕ) (a b c : List ℕ) → d₁ ≡ sets d i a → d₂ ≡ sets d₁ j b → d₃ ≡ sets d₂ k c
+    → j ≡ i + length a → k ≡ j + length b → d₃ ≡ sets d i (a ++ (b ++ c))
+runs-3 {d₁} d i j k a b c e₁ e₂ e₃ p q = runs-2 d i j a (b ++ c) e₁ (runs-2 d₁ j k b c e₂ e₃ q) p
+
+pub runs-4 : {d₁ d₂ d₃ d₄ : List ℕ} (d : List ℕ) (i j k l : ℕ) (a b c e : List ℕ)
+    → d₁ ≡ sets d i a → d₂ ≡ sets d₁ j b → d₃ ≡ sets d₂ k c → d₄ ≡ sets d₃ l e
+    → j ≡ i + length a → k ≡ j + length b → l ≡ k + length c → d₄ ≡ sets d i (a ++ (b ++ (c ++ e)))
+runs-4 {d₁} d i j k l a b c e e₁ e₂ e₃ e₄ p q r = runs-2 d i j a (b ++ (c ++ e)) e₁ (runs-3 d₁ j k l b c e e₂ e₃ e₄ q r) p
+
 -- nothing is stored past the end
 pub sets-past : (d : List ℕ) (i : ℕ) (b : List ℕ) → length d ≤ i → sets d i b ≡ d
 sets-past d i [] h = refl

@@ -2,11 +2,17 @@
 -- Assumes nothing.
 use Prim.Native.Nat.{ℕ, zero, suc, _+_, _*_, _/_, _%_}
 use mathlib.Core.List.{List, [], _∷_}
-use lib.ListN.{take, drop}
+use lib.ListN.{length, take, drop}
+use lib.Dec.{leb}
+use Rattle.wire.specs.Choice.{pick}
 
 -- the k bytes of s from `at` on, or as many of them as s has
 abbrev pub part : List ℕ → ℕ → ℕ → List ℕ
 part s at k = take k (drop at s)
+
+-- the same where s has them all, else none: document 01's part of the lent bytes, "empty if .. it doesn't fit the bytes"
+abbrev pub within : List ℕ → ℕ → ℕ → List ℕ
+within s at k = pick (leb (at + k) (length s)) (part s at k) []
 
 -- the number that bytes spell, the lowest first: a missing byte counts as 0
 unfoldable pub le : List ℕ → ℕ

@@ -5,10 +5,14 @@
 // stores and signed numbers in proofs/. Crate `store` writes.
 mod read;
 mod sign;
+mod slice;
 
 pub use read::i32_at;
 pub use read::i64_at;
 pub use read::left;
+pub use read::u8_at;
 pub use read::u16_at;
 pub use read::u32_at;
 pub use read::u64_at;
+pub use sign::signed64;
+pub use slice::part;

@@ -34,7 +34,7 @@ pub fn left(s: &[u8], at: usize) -> usize
     if at <= s.len() { s.len() - at } else { 0 }
 }
 
-fn u8_at(s: &[u8], at: usize) -> u8
+pub fn u8_at(s: &[u8], at: usize) -> u8
     ensures { λ r. ⌜ r ≡ le (part (now (s .entry)) at 1) ⌝ }
 {
     if s.len() <= at {

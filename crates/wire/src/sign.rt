@@ -14,7 +14,7 @@ pub(crate) fn signed32(x: u32) -> i32
     }
 }
 
-pub(crate) fn signed64(x: u64) -> i64
+pub fn signed64(x: u64) -> i64
     ensures { λ r. ⌜ r ≡ toZ w64 x ⌝ }
 {
     if x < 0x8000_0000_0000_0000 {

@@ -46,7 +46,7 @@ pub fn input() -> Vec<u8> {
 fn every_offset(generator: &mut Generator, records: &mut Vec<u8>) {
     for n in [0, 1, 2, 7, 8, 9, 16] {
         for at in 0..=n + 1 {
-            let value = generator.next();
+            let value = generator.draw();
             let bytes = generator.bytes(n as usize);
             push(records, at, value, &bytes);
         }
@@ -73,10 +73,10 @@ fn far(generator: &mut Generator, n: u64) -> u64 {
 }
 
 fn value(generator: &mut Generator, turn: u64) -> u64 {
-    if turn % 3 == 0 {
+    if turn.is_multiple_of(3) {
         generator.pick(&VALUES)
     } else {
-        generator.next()
+        generator.draw()
     }
 }
 

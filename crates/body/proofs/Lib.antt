@@ -1,0 +1,2 @@
+-- Laws of crate body: what the writers share.
+pub mod WrittenLaws

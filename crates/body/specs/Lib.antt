@@ -1,0 +1,2 @@
+-- Definitions of crate body: what the writers share.
+pub mod Written

@@ -1,0 +1,2 @@
+-- Definitions of crate header: the header values.
+pub mod Headers

@@ -1,0 +1,2 @@
+-- Laws of crate invoke: the invoke reader.
+pub mod InvokeLaws

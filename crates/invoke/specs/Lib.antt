@@ -1,0 +1,3 @@
+-- Definitions of crate invoke: the invoke reader.
+pub mod Headers
+pub mod ReadInvoke

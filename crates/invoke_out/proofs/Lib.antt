@@ -1,0 +1,2 @@
+-- Laws of crate invoke_out: the invoke writer.
+pub mod WriteLaws

@@ -1,0 +1,2 @@
+-- Definitions of crate invoke_out: the invoke writer.
+pub mod WriteInvoke

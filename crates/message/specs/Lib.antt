@@ -1,0 +1,4 @@
+-- Definitions of crate message: one message.
+pub mod PartOf
+pub mod ReadMessage
+pub mod WriteShort

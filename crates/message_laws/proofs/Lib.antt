@@ -1,0 +1,7 @@
+-- Laws of crate message_laws: the theorems on messages.
+pub mod Cases
+pub mod InvokeBack
+pub mod MessageBack
+pub mod ResultBack
+pub mod TextBack
+pub mod Within

@@ -1,0 +1,3 @@
+-- Definitions of crate message_laws: the theorems on messages.
+pub mod Forms
+pub mod RoundTrip

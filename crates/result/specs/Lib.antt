@@ -1,0 +1,2 @@
+-- Definitions of crate result: the readers of a result.
+pub mod ReadResult

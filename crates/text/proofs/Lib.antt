@@ -1,0 +1,2 @@
+-- Laws of crate text: the text form.
+pub mod TextLaws

@@ -1,0 +1,2 @@
+-- Definitions of crate text: the text form.
+pub mod TextForm

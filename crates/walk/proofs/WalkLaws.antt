@@ -1,0 +1,216 @@
+-- The walk's loop: what it has done so far, and what each way out and each turn add to it.
+-- Assumes nothing.
+use mathlib.Core.Path.{_≡_, refl, sym, ap, _∙_, subst}
+use mathlib.Core.Bool.{Bool, true, false}
+use mathlib.Core.List.{List, [], _∷_, _++_, append-nil, append-assoc}
+use Prim.Native.Nat.{ℕ, zero, suc, _+_, _-_, _*_, _≤_, _<_}
+use native.Mathlib.Nat.{zero-add, add-zero, add-assoc}
+use native.Mathlib.Omega.{arith}
+use borrow.Author.Tests.{lt-ltb, le-ltb, eq-eqb, ne-eqb}
+use lib.IntN.{pos}
+use lib.ListN.{length, take, drop, length-append, length-drop}
+use lib.Seq.{sets, sets-eq, length-sets, length-take-le, take-at, drop-drop}
+use Rattle.wire.proofs.StoreLaws.{runs-2}
+use Rattle.inflight.specs.declared.Table.{Table}
+use Rattle.inflight.specs.declared.AskAnswer.{AskAnswer}
+use Rattle.inflight.specs.declared.AskAnswer.the-variants as A
+use Rattle.inflight.specs.declared.ReplyAnswer.{ReplyAnswer}
+use Rattle.inflight.specs.declared.ReplyAnswer.the-variants as R
+use Rattle.inflight.specs.declared.CancelAnswer.{CancelAnswer}
+use Rattle.inflight.specs.declared.CancelAnswer.the-variants as C
+use Rattle.inflight.specs.declared.DropAnswer.{DropAnswer}
+use Rattle.inflight.specs.declared.DropAnswer.the-variants as D
+use Rattle.inflight.specs.Tables.{askOf, replyOf, cancelOf, closedOf, closedSliceOf, lostOf, lostSliceOf}
+use Rattle.inflight.specs.Calls.{tableHeard}
+use lib.IntN.{ℤ}
+use Rattle.walk.specs.Events.{eventOf, recordSize, waits}
+use Rattle.walk.specs.Lines.{askLine, replyLine, cancelLine, droppedLines, refusedLine, callLines, dropLines, line, countOf, askWord, replyWord, cancelWord, closedWord, lostWord}
+use Rattle.walk.specs.Walk.{linesOf, afterEvent, Outcome, ends, after, walkFrom, walkOf, walkedOf, turnOf, Told, lentSlice}
+use Rattle.walk.specs.declared.Event.{Event}
+use Rattle.walk.specs.declared.Event.the-variants.{Ask, Reply, Cancel, Closed, Lost, End, Cut, Unknown}
+use Rattle.walk.specs.declared.Turned.{Turned}
+use Rattle.walk.specs.declared.Walked.{Walked}
+use Rattle.walk.proofs.LineLaws.{line-most, pair-most, refused-most, drops-most}
+use Rattle.walk.proofs.TurnLaws.{closed-count, lost-count}
+use Rattle.walk.proofs.EventLaws.{record-fits}
+
+-- ---- the lines of one event are short
+
+ask-short : (a : AskAnswer) → length (askLine a) ≤ 4096
+unfolding askLine
+ask-short (A.Accepted n) = omega (arith, line-most askWord (n .0))
+ask-short (A.Refused k) = omega (arith, refused-most k)
+
+reply-short : (a : ReplyAnswer) → length (replyLine a) ≤ 4096
+unfolding replyLine
+reply-short (R.Front l n) = omega (arith, pair-most replyWord (pos l) (n .0))
+reply-short (R.Refused k) = omega (arith, refused-most k)
+
+cancel-short : (a : CancelAnswer) → length (cancelLine a) ≤ 4096
+unfolding cancelLine
+cancel-short (C.Publisher p n) = omega (arith, pair-most cancelWord (pos p) (n .0))
+cancel-short (C.Refused k) = omega (arith, refused-most k)
+
+dropped-short : (word : List ℕ) (a : DropAnswer) (out : List ℤ) → length word ≤ 8 → 2 * countOf a ≤ 128 → length (droppedLines word a out) ≤ 4096
+unfolding droppedLines
+dropped-short word (D.Count n) out w h = rw length-append (omega (arith, line-most word (pos n), drops-most n out))
+dropped-short word (D.Refused k) out w h = omega (arith, refused-most k)
+
+pub lines-short : (t : Table) (e : Event) → length (linesOf t e) ≤ 4096
+unfolding linesOf callLines
+lines-short t (Ask l n p) = ask-short (askOf t l n p .answer)
+lines-short t (Reply p n) = reply-short (replyOf t p n .answer)
+lines-short t (Cancel l n) = cancel-short (cancelOf t l n .answer)
+lines-short t (Closed l) = dropped-short closedWord (closedOf t l lentSlice .answer) (closedSliceOf t l lentSlice) (omega arith) (closed-count t l lentSlice)
+lines-short t (Lost p) = dropped-short lostWord (lostOf t p lentSlice .answer) (lostSliceOf t p lentSlice) (omega arith) (lost-count t p lentSlice)
+lines-short t End = omega (arith, refused-most 35)
+lines-short t Cut = omega (arith, refused-most 35)
+lines-short t Unknown = omega (arith, refused-most 35)
+
+-- ---- one turn of the definition
+
+module _ (t : Table) (es : List ℕ) (room : ℕ) (last : Bool) (k : ℕ) where
+  turn-waits : waits (eventOf es) last ≡ true → walkFrom (suc k) t es room last ≡ ends t [] false
+  unfolding walkFrom
+  turn-waits h = rw h
+
+  turn-full : waits (eventOf es) last ≡ false → room < length (linesOf t (eventOf es)) → walkFrom (suc k) t es room last ≡ ends t [] false
+  unfolding walkFrom
+  turn-full h f = rw (h, lt-ltb _ _ f)
+
+  turn-stops : waits (eventOf es) last ≡ false → length (linesOf t (eventOf es)) ≤ room → recordSize (eventOf es) ≡ 0
+      → walkFrom (suc k) t es room last ≡ ends t (linesOf t (eventOf es)) true
+  unfolding walkFrom
+  turn-stops h f z = rw (h, le-ltb _ _ f, eq-eqb _ _ z)
+
+  turn-goes : waits (eventOf es) last ≡ false → length (linesOf t (eventOf es)) ≤ room → (recordSize (eventOf es) ≡ 0 → ⊥)
+      → walkFrom (suc k) t es room last
+      ≡ after (recordSize (eventOf es)) (linesOf t (eventOf es))
+      (walkFrom k (afterEvent t (eventOf es)) (drop (recordSize (eventOf es)) es) (room - length (linesOf t (eventOf es))) last)
+  unfolding walkFrom
+  turn-goes h f z = rw (h, le-ltb _ _ f, ne-eqb _ _ z)
+
+-- ---- texts at the front of a slice
+
+take-sets : (out : List ℕ) (to : ℕ) (a : List ℕ) → to + length a ≤ length out → take (to + length a) (sets out to a) ≡ take to out ++ a
+take-sets out to a h =
+    ap (take (to + length a)) (sets-eq a out to h)
+    ∙ take-at (take to out ++ a) (drop (to + length a) out) (to + length a) (rw (length-append, length-take-le to out (omega arith)) refl)
+
+pub front-of : (text a : List ℕ) (n : ℕ) → n ≡ length a → length a ≤ length text → take n (sets text 0 a) ≡ a
+front-of text a n e h = rw (e ∙ sym (zero-add (length a))) (take-sets text 0 a (omega arith))
+
+-- ---- what a turn leaves in the scratch text
+
+pub record Lines (t : Table) (e : Event) (r : Turned) (text text₁ : List ℕ) : Type 0 where
+  pub size : r .size ≡ length (linesOf t e)
+  pub table : r .table ≡ afterEvent t e
+  pub long : length text₁ ≡ length text
+  pub enough : r .size ≤ length text₁
+  pub front : take (r .size) text₁ ≡ linesOf t e
+
+pub lines-known : {t : Table} {e : Event} {r : Turned} {text text₁ : List ℕ} → (r ≡ turnOf t e) × (text₁ ≡ sets text 0 (linesOf t e)) → 4096 ≤ length text
+    → Lines t e r text text₁
+unfolding turnOf
+lines-known {t} {e} {r} {text} {text₁} h room =
+    let n : r .size ≡ length (linesOf t e) = ap (λ (x : Turned). x .size) (h .0) in
+    let l : length text₁ ≡ length text = ap length (h .1) ∙ length-sets text 0 (linesOf t e) in
+    record {
+      size = n;
+      table = ap (λ (x : Turned). x .table) (h .0);
+      long = l;
+      enough = omega (arith, lines-short t e);
+      front = ap (take (r .size)) (h .1) ∙ front-of text (linesOf t e) (r .size) n (omega (arith, lines-short t e));
+    }
+
+-- ---- the loop
+
+after-after : (at k : ℕ) (x a : List ℕ) (o : Outcome) → after at x (after k a o) ≡ after (at + k) (x ++ a) o
+unfolding after
+after-after at k x a o = rw (append-assoc x a (o .text), add-assoc at k (o .consumed))
+
+module _ (s : Table) (es before : List ℕ) (last : Bool) where
+  -- after some turns: `at` bytes are consumed, the text so far stands at the front of `out`, and the rest of the walk goes on from here
+  pub record Came (t : Table) (at to turns : ℕ) (out : List ℕ) : Type 0 where
+    pub within : at ≤ length es
+    pub room : to ≤ length before
+    pub same : length out ≡ length before
+    pub text : out ≡ sets before 0 (take to out)
+    pub rest : walkOf s es (length before) last ≡ after at (take to out) (walkFrom turns t (drop at es) (length before - to) last)
+
+  after-nothing : (o : Outcome) → after 0 [] o ≡ o
+  unfolding after
+  after-nothing o = rw (zero-add (o .consumed))
+
+  pub came-first : Came s 0 0 (length es) before
+  unfolding walkOf
+  came-first =
+      let e : length before - 0 ≡ length before = omega arith in
+      record {
+        within = omega arith;
+        room = omega arith;
+        same = refl;
+        text = refl;
+        rest = rw e (sym (after-nothing (walkFrom (length es) s es (length before) last)));
+      }
+
+  module _ {t : Table} {at to turns : ℕ} {out : List ℕ} (c : Came t at to turns out) where
+    -- the walk comes no further, and adds a text
+    ends-with : (a : List ℕ) (stops : Bool) (out₁ : List ℕ) → to + length a ≤ length before → out₁ ≡ sets out to a
+        → walkFrom turns t (drop at es) (length before - to) last ≡ ends t a stops
+        → Told (walkOf s es (length before) last) before (record { table = t; consumed = at; written = to + length a; stopped = stops }) out₁
+    unfolding after
+    ends-with a stops out₁ f o h =
+        let e : walkOf s es (length before) last ≡ record { table = t; consumed = at + 0; text = take to out ++ a; stopped = stops } = c .rest ∙ ap (after at (take to out)) h in
+        let n : length (take to out) ≡ to = length-take-le to out (omega (arith, c .room, c .same)) in
+        record {
+          answer = rw (e, add-zero at, length-append (take to out) a, n);
+          text = runs-2 before 0 to (take to out) a (c .text) o (omega (arith, n)) ∙ sym (ap (λ (w : Outcome). sets before 0 (w .text)) e);
+        }
+
+    left-off : walkFrom turns t (drop at es) (length before - to) last ≡ ends t [] false
+        → Told (walkOf s es (length before) last) before (record { table = t; consumed = at; written = to; stopped = false }) out
+    left-off h =
+        let w = ends-with [] false out (omega (arith, c .room)) refl h in
+        let e : to + 0 ≡ to = add-zero to in
+        subst (λ (n : ℕ). Told (walkOf s es (length before) last) before (record { table = t; consumed = at; written = n; stopped = false }) out) e w
+
+    -- no turn is left, and so no byte
+    pub none-left : turns ≡ 0 → Told (walkOf s es (length before) last) before (record { table = t; consumed = at; written = to; stopped = false }) out
+    unfolding walkFrom
+    none-left z = left-off (rw z)
+
+    module _ {e : Event} (more : 0 < turns) (reads : e ≡ eventOf (drop at es)) where
+      one-more : turns ≡ suc (turns - 1)
+      one-more = omega arith
+
+      pub wait-ends : waits e last ≡ true → Told (walkOf s es (length before) last) before (record { table = t; consumed = at; written = to; stopped = false }) out
+      wait-ends h = left-off (rw one-more (turn-waits t (drop at es) (length before - to) last (turns - 1) (rw reads at h)))
+
+      pub full-ends : waits e last ≡ false → length before - to < length (linesOf t e)
+          → Told (walkOf s es (length before) last) before (record { table = t; consumed = at; written = to; stopped = false }) out
+      full-ends h f = left-off (rw one-more (turn-full t (drop at es) (length before - to) last (turns - 1) (rw reads at h) (rw reads at f)))
+
+      pub stop-ends : (out₁ : List ℕ) → waits e last ≡ false → length (linesOf t e) ≤ length before - to → recordSize e ≡ 0 → out₁ ≡ sets out to (linesOf t e)
+          → Told (walkOf s es (length before) last) before (record { table = t; consumed = at; written = to + length (linesOf t e); stopped = true }) out₁
+      stop-ends out₁ h f z o =
+          let step = turn-stops t (drop at es) (length before - to) last (turns - 1) (rw reads at h) (rw reads at f) (rw reads at z) in
+          ends-with (linesOf t e) true out₁ (omega (arith, c .room)) o (rw one-more (rw reads step))
+
+      pub goes-on : (out₁ : List ℕ) → waits e last ≡ false → length (linesOf t e) ≤ length before - to → (recordSize e ≡ 0 → ⊥) → out₁ ≡ sets out to (linesOf t e)
+          → Came (afterEvent t e) (at + recordSize e) (to + length (linesOf t e)) (turns - 1) out₁
+      goes-on out₁ h f z o =
+          let a : List ℕ = linesOf t e in
+          let k : ℕ = recordSize e in
+          let n : length (take to out) ≡ to = length-take-le to out (omega (arith, c .room, c .same)) in
+          let q : take (to + length a) out₁ ≡ take to out ++ a = ap (take (to + length a)) o ∙ take-sets out to a (omega (arith, c .room, c .same)) in
+          let step : walkFrom turns t (drop at es) (length before - to) last ≡ after k a (walkFrom (turns - 1) (afterEvent t e) (drop k (drop at es)) (length before - to - length a) last) =
+          subst (λ (m : ℕ). walkFrom m t (drop at es) (length before - to) last ≡ after k a (walkFrom (turns - 1) (afterEvent t e) (drop k (drop at es)) (length before - to - length a) last)) (sym one-more) (rw reads (turn-goes t (drop at es) (length before - to) last (turns - 1) (rw reads at h) (rw reads at f) (rw reads at z))) in
+          let r : length before - to - length a ≡ length before - (to + length a) = omega arith in
+          record {
+            within = omega (arith, record-fits (drop at es), length-drop at es, ap recordSize reads, c .within);
+            room = omega (arith, c .room);
+            same = ap length o ∙ length-sets out to a ∙ c .same;
+            text = runs-2 before 0 to (take to out) a (c .text) o (omega (arith, n)) ∙ ap (sets before 0) (sym q);
+            rest = c .rest ∙ ap (after at (take to out)) step ∙ after-after at k (take to out) a _ ∙ rw (q, drop-drop k at es, r) refl;
+          }

@@ -1,0 +1,21 @@
+-- The number that eight bytes spell. Assumes nothing.
+use mathlib.Core.Path.{_∙_}
+use mir.Syntax.{w64}
+use Rattle.wire.proofs.SignLaws.{back}
+use Rattle.walk.specs.Events.{frontNumber}
+use borrow.Author.Needs.{needs}
+use Rattle.walk.proofs.events.front_number.Statement.{statement}
+use Rattle.walk.proofs.events.front_number.Tie as tie
+use Rattle.walk.proofs.events.front_number.Reads as reads
+use Rattle.walk.proofs.events.front_number.Lts as lts
+use Rattle.wire.proofs.i64_at.Reads as i64-at-reads
+
+i64-at-requires : tie.Need-i64-at-requires
+i64-at-requires c κs = search needs
+
+returns : tie.Need-returns
+unfolding frontNumber
+returns c = rw (back w64 (c .i64-at .result) (c .i64-at .ok) ∙ c .i64-at .ensures)
+
+pub front-number-spec : {M : Type 1} → statement M
+front-number-spec = tie.close (tie.spec i64-at-requires returns)

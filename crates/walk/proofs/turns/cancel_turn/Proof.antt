@@ -1,0 +1,28 @@
+use Rattle.walk.specs.Lines.{cancelLine, callLines}
+use Rattle.walk.specs.Walk.{turnOf, linesOf, afterEvent}
+use Rattle.inflight.specs.declared.Cancelled.{Cancelled}
+use Rattle.walk.proofs.TurnLaws.{turn-is}
+use borrow.Author.Needs.{needs}
+use Rattle.walk.proofs.turns.cancel_turn.Statement.{statement}
+use Rattle.walk.proofs.turns.cancel_turn.Tie as tie
+use Rattle.walk.proofs.turns.cancel_turn.Reads as reads
+use Rattle.walk.proofs.turns.cancel_turn.Lts as lts
+use Rattle.inflight.proofs.cancel.Reads as cancel-reads
+use Rattle.walk.proofs.turns.put_cancel.Reads as put-cancel-reads
+
+cancel-requires : tie.Need-cancel-requires
+cancel-requires c κs = search needs
+
+put-cancel-requires : tie.Need-put-cancel-requires
+put-cancel-requires c κs = search needs
+
+same-length : tie.Need-same-length
+same-length c = search needs
+
+returns : tie.Need-returns
+unfolding turnOf linesOf afterEvent callLines
+returns c =
+    turn-is (λ (r : Cancelled). r .table) (λ (r : Cancelled). cancelLine (r .answer)) (c .before .before .before .before .before .before .before .args .text .now) (c .before .before .before .before .before .cancel .ensures) (c .before .before .before .put-cancel .ensures)
+
+pub cancel-turn-spec : {M : Type 1} → statement M
+cancel-turn-spec = tie.close (tie.spec cancel-requires put-cancel-requires same-length returns)

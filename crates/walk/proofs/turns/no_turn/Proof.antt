@@ -1,0 +1,27 @@
+use mathlib.Core.Path.{refl}
+use Prim.Native.Nat.{ℕ}
+use Rattle.inflight.specs.declared.Table.{Table}
+use Rattle.walk.specs.Lines.{refusedLine}
+use Rattle.walk.specs.Walk.{turnOf, linesOf, afterEvent}
+use Rattle.walk.proofs.TurnLaws.{turn-is}
+use borrow.Author.Needs.{needs}
+use Rattle.walk.proofs.turns.no_turn.Statement.{statement}
+use Rattle.walk.proofs.turns.no_turn.Tie as tie
+use Rattle.walk.proofs.turns.no_turn.Reads as reads
+use Rattle.walk.proofs.turns.no_turn.Lts as lts
+use Rattle.walk.proofs.lines.put_refused.Reads as put-refused-reads
+
+put-refused-requires : tie.Need-put-refused-requires
+put-refused-requires c κs = search needs
+
+same-length : tie.Need-same-length
+same-length c = search needs
+
+returns : tie.Need-returns
+unfolding turnOf linesOf afterEvent
+returns c =
+    let a = c .before .before .before .before .before .args in
+    turn-is {s = a .t} (λ (t : Table). t) (λ (t : Table). refusedLine 35) (a .text .now) refl (c .before .before .put-refused .ensures)
+
+pub no-turn-spec : {M : Type 1} → statement M
+no-turn-spec = tie.close (tie.spec put-refused-requires same-length returns)

@@ -1,0 +1,28 @@
+use Rattle.walk.specs.Lines.{replyLine, callLines}
+use Rattle.walk.specs.Walk.{turnOf, linesOf, afterEvent}
+use Rattle.inflight.specs.declared.Replied.{Replied}
+use Rattle.walk.proofs.TurnLaws.{turn-is}
+use borrow.Author.Needs.{needs}
+use Rattle.walk.proofs.turns.reply_turn.Statement.{statement}
+use Rattle.walk.proofs.turns.reply_turn.Tie as tie
+use Rattle.walk.proofs.turns.reply_turn.Reads as reads
+use Rattle.walk.proofs.turns.reply_turn.Lts as lts
+use Rattle.inflight.proofs.reply.Reads as reply-reads
+use Rattle.walk.proofs.turns.put_reply.Reads as put-reply-reads
+
+reply-requires : tie.Need-reply-requires
+reply-requires c κs = search needs
+
+put-reply-requires : tie.Need-put-reply-requires
+put-reply-requires c κs = search needs
+
+same-length : tie.Need-same-length
+same-length c = search needs
+
+returns : tie.Need-returns
+unfolding turnOf linesOf afterEvent callLines
+returns c =
+    turn-is (λ (r : Replied). r .table) (λ (r : Replied). replyLine (r .answer)) (c .before .before .before .before .before .before .before .args .text .now) (c .before .before .before .before .before .reply .ensures) (c .before .before .before .put-reply .ensures)
+
+pub reply-turn-spec : {M : Type 1} → statement M
+reply-turn-spec = tie.close (tie.spec reply-requires put-reply-requires same-length returns)

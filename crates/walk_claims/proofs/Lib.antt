@@ -1,0 +1,5 @@
+-- The proof, and the laws that it cites.
+pub mod FullText
+pub mod SameEvent
+pub mod Resume
+pub mod ProgramText

@@ -1,0 +1,85 @@
+-- An event that stands whole in some bytes, or is of an unknown kind, stands the same at the front of more bytes.
+-- Assumes nothing.
+use mathlib.Core.Path.{_≡_, refl, sym, ap, _∙_}
+use Prim.Native.Nat.{ℕ, suc, _+_, _≤_, _<_}
+use native.Mathlib.Omega.{arith}
+use mathlib.Core.Bool.{Bool, true, false, true≢false}
+use mathlib.Core.List.{List, [], _∷_, _++_, append-nil}
+use borrow.Author.Tests.{lt-leb, leb-false, ne-eqb}
+use lib.Dec.{eqb, leb}
+use lib.ListN.{length, getD, take, drop, length-append, length-drop, List·getD-append}
+use lib.Seq.{take-append-le, drop-append-le}
+use mir.Syntax.{w64}
+use mir.Val.{toZ}
+use Rattle.wire.specs.Bytes.{le, part}
+use Rattle.wire.specs.Choice.{pick, first}
+use Rattle.walk.specs.Events.{bodySize, bodyOf, eventOf, recordSize, frontNumber, publisherNumber, waits}
+use Rattle.walk.specs.declared.Event.{Event}
+use Rattle.walk.specs.declared.Event.the-variants.{Ask, Reply, Cancel, Closed, Lost, End, Cut, Unknown}
+
+module _ (es more : List ℕ) where
+  same-byte : (i : ℕ) → i < length es → getD (es ++ more) i 0 ≡ getD es i 0
+  same-byte i h = List·getD-append es more 0 i h
+
+  same-part : 10 ≤ length es → part (es ++ more) 2 8 ≡ part es 2 8
+  same-part h = rw (drop-append-le 2 es more (omega arith)) (take-append-le 8 (drop 2 es) more (rw length-drop (omega arith)))
+
+  same-front : 10 ≤ length es → frontNumber (es ++ more) ≡ frontNumber es
+  unfolding frontNumber
+  same-front h = rw (same-part h)
+
+  same-number : 10 ≤ length es → publisherNumber (es ++ more) ≡ publisherNumber es
+  unfolding publisherNumber
+  same-number h = rw (same-part h)
+
+  kinds-same : (a b c d e : Bool) → eqb (first ((a, 10) ∷ (b, 9) ∷ (c, 9) ∷ (d, 1) ∷ (e, 1) ∷ []) 0) 0 ≡ false
+      → first ((a, 10) ∷ (b, 9) ∷ (c, 9) ∷ (d, 1) ∷ (e, 1) ∷ []) 0 < length es
+      → first
+      ((a, Ask (getD (es ++ more) 1 0) (frontNumber (es ++ more)) (getD (es ++ more) 10 0))
+      ∷ (b, Reply (getD (es ++ more) 1 0) (publisherNumber (es ++ more)))
+      ∷ (c, Cancel (getD (es ++ more) 1 0) (frontNumber (es ++ more)))
+      ∷ (d, Closed (getD (es ++ more) 1 0))
+      ∷ [])
+      (Lost (getD (es ++ more) 1 0))
+      ≡ first
+      ((a, Ask (getD es 1 0) (frontNumber es) (getD es 10 0))
+      ∷ (b, Reply (getD es 1 0) (publisherNumber es))
+      ∷ (c, Cancel (getD es 1 0) (frontNumber es))
+      ∷ (d, Closed (getD es 1 0))
+      ∷ [])
+      (Lost (getD es 1 0))
+  kinds-same true b c d e z h = rw (same-byte 1 (omega arith), same-front (omega arith), same-byte 10 (omega arith))
+  kinds-same false true c d e z h = rw (same-byte 1 (omega arith), same-number (omega arith))
+  kinds-same false false true d e z h = rw (same-byte 1 (omega arith), same-front (omega arith))
+  kinds-same false false false true e z h = rw (same-byte 1 (omega arith))
+  kinds-same false false false false true z h = rw (same-byte 1 (omega arith))
+  kinds-same false false false false false z h = absurd (true≢false z)
+
+  body-same : (kind : ℕ) → eqb (bodySize kind) 0 ≡ false → bodySize kind < length es → bodyOf kind (es ++ more) ≡ bodyOf kind es
+  unfolding bodySize bodyOf
+  body-same kind z h = kinds-same (eqb kind 1) (eqb kind 2) (eqb kind 3) (eqb kind 4) (eqb kind 5) z h
+
+-- the event at the front of some bytes, of which there is one at least
+event-at : (x : ℕ) (xs : List ℕ) → eventOf (x ∷ xs) ≡ first ((eqb (bodySize x) 0, Unknown) ∷ (leb (length (x ∷ xs)) (bodySize x), Cut) ∷ []) (bodyOf x (x ∷ xs))
+unfolding eventOf
+event-at x xs = rw (ne-eqb (length (x ∷ xs)) 0 (λ q. omega arith))
+
+event-more : (es more : List ℕ) → waits (eventOf es) false ≡ false → eventOf (es ++ more) ≡ eventOf es
+unfolding eventOf
+event-more [] more h = absurd (true≢false h)
+event-more (x ∷ xs) more h = event-at x (xs ++ more) ∙ go (eqb (bodySize x) 0) (leb (length (x ∷ xs)) (bodySize x)) refl refl (rw (event-at x xs) at h) ∙ sym (event-at x xs)
+  where
+    go : (a b : Bool) → eqb (bodySize x) 0 ≡ a → leb (length (x ∷ xs)) (bodySize x) ≡ b
+        → waits (first ((a, Unknown) ∷ (b, Cut) ∷ []) (bodyOf x (x ∷ xs))) false ≡ false
+        → first ((a, Unknown) ∷ (leb (length (x ∷ (xs ++ more))) (bodySize x), Cut) ∷ []) (bodyOf x (x ∷ (xs ++ more)))
+        ≡ first ((a, Unknown) ∷ (b, Cut) ∷ []) (bodyOf x (x ∷ xs))
+    go true b p q w = refl
+    go false true p q w = absurd (true≢false w)
+    go false false p q w =
+        let l = leb-false (length (x ∷ xs)) (bodySize x) q in
+        rw (lt-leb (length (x ∷ (xs ++ more))) (bodySize x) (omega (arith, length-append (x ∷ xs) more))) (body-same (x ∷ xs) more x p (omega arith))
+
+-- the same, where nothing follows the last bytes
+pub same-event : (es more : List ℕ) (last : Bool) → (last ≡ true → more ≡ []) → waits (eventOf es) last ≡ false → eventOf (es ++ more) ≡ eventOf es
+same-event es more true m h = ap (λ (x : List ℕ). eventOf (es ++ x)) (m refl) ∙ ap eventOf (append-nil es)
+same-event es more false m h = event-more es more h

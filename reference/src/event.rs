@@ -1,0 +1,158 @@
+//! The events of the relay walk: their bytes, and the table's answer to each.
+
+use crate::numbers::read_i64;
+use crate::refusal::Refusal;
+use crate::table::{End, Table};
+use std::io::{self, BufRead, ErrorKind, Read};
+
+#[derive(Clone, Copy, Debug, PartialEq, Eq)]
+pub enum Event {
+    /// Link, front number, publisher.
+    Ask(u8, i64, u8),
+    /// Publisher, publisher number.
+    Reply(u8, i64),
+    /// Link, front number.
+    Cancel(u8, i64),
+    /// Link.
+    Closed(u8),
+    /// Publisher.
+    Lost(u8),
+}
+
+/// What the table hands back; closed and lost give a count, and write the
+/// other ends into the slice they are lent.
+#[derive(Clone, Copy, Debug, PartialEq, Eq)]
+pub enum Answer {
+    Ask(i64),
+    Reply(End),
+    Cancel(End),
+    Closed(usize),
+    Lost(usize),
+}
+
+const LONGEST_BODY: usize = 10;
+
+fn body_length(kind: u8) -> Option<usize> {
+    match kind {
+        1 => Some(10),
+        2 | 3 => Some(9),
+        4 | 5 => Some(1),
+        _ => None,
+    }
+}
+
+impl Event {
+    /// The next event of `input`; none at its end.
+    pub fn read(input: &mut impl BufRead) -> io::Result<Option<Result<Event, Refusal>>> {
+        let Some(kind) = input.by_ref().bytes().next().transpose()? else {
+            return Ok(None);
+        };
+        let Some(length) = body_length(kind) else {
+            return Ok(Some(Err(Refusal::BadEvent)));
+        };
+        let mut body = [0; LONGEST_BODY];
+        match input.read_exact(&mut body[..length]) {
+            Ok(()) => Ok(Some(Ok(Event::decode(kind, &body)))),
+            Err(error) if error.kind() == ErrorKind::UnexpectedEof => {
+                Ok(Some(Err(Refusal::BadEvent)))
+            }
+            Err(error) => Err(error),
+        }
+    }
+
+    /// Of a known kind and its whole body.
+    fn decode(kind: u8, body: &[u8; LONGEST_BODY]) -> Event {
+        let number = read_i64(body, 1);
+        match kind {
+            1 => Event::Ask(body[0], number, body[9]),
+            2 => Event::Reply(body[0], number),
+            3 => Event::Cancel(body[0], number),
+            4 => Event::Closed(body[0]),
+            _ => Event::Lost(body[0]),
+        }
+    }
+
+    pub fn encode(self, bytes: &mut Vec<u8>) {
+        let mut put = |kind, side, number: &[u8]| {
+            bytes.extend([kind, side]);
+            bytes.extend(number);
+        };
+        match self {
+            Event::Ask(link, number, publisher) => {
+                put(1, link, &number.to_le_bytes());
+                bytes.push(publisher);
+            }
+            Event::Reply(publisher, number) => put(2, publisher, &number.to_le_bytes()),
+            Event::Cancel(link, number) => put(3, link, &number.to_le_bytes()),
+            Event::Closed(link) => put(4, link, &[]),
+            Event::Lost(publisher) => put(5, publisher, &[]),
+        }
+    }
+
+    /// The call this event stands for.
+    pub fn call(self, table: &mut Table, ends: &mut [i64]) -> Result<Answer, Refusal> {
+        match self {
+            Event::Ask(link, number, publisher) => {
+                table.ask(link, number, publisher).map(Answer::Ask)
+            }
+            Event::Reply(publisher, number) => table.reply(publisher, number).map(Answer::Reply),
+            Event::Cancel(link, number) => table.cancel(link, number).map(Answer::Cancel),
+            Event::Closed(link) => table.closed(link, ends).map(Answer::Closed),
+            Event::Lost(publisher) => table.lost(publisher, ends).map(Answer::Lost),
+        }
+    }
+}
+
+#[cfg(test)]
+mod tests {
+    use super::*;
+
+    const EVENTS: [Event; 5] = [
+        Event::Ask(3, i64::MIN, 7),
+        Event::Reply(255, 0x0102_0304_0506_0708),
+        Event::Cancel(0, -2),
+        Event::Closed(31),
+        Event::Lost(8),
+    ];
+
+    #[test]
+    fn the_bytes_of_each_kind() {
+        let bytes_of = |event: Event| {
+            let mut bytes = Vec::new();
+            event.encode(&mut bytes);
+            bytes
+        };
+        assert_eq!(bytes_of(EVENTS[0]), [1, 3, 0, 0, 0, 0, 0, 0, 0, 0x80, 7]);
+        assert_eq!(bytes_of(EVENTS[1]), [2, 255, 8, 7, 6, 5, 4, 3, 2, 1]);
+        assert_eq!(bytes_of(EVENTS[2])[..3], [3, 0, 0xfe]);
+        assert_eq!(bytes_of(EVENTS[3]), [4, 31]);
+        assert_eq!(bytes_of(EVENTS[4]), [5, 8]);
+    }
+
+    #[test]
+    fn what_is_encoded_is_read() {
+        let mut bytes = Vec::new();
+        EVENTS.iter().for_each(|event| event.encode(&mut bytes));
+        let mut input = &bytes[..];
+        for event in EVENTS {
+            assert_eq!(Event::read(&mut input).unwrap(), Some(Ok(event)));
+        }
+        assert_eq!(Event::read(&mut input).unwrap(), None);
+    }
+
+    #[test]
+    fn cut_or_unknown_is_35() {
+        for event in EVENTS {
+            let mut bytes = Vec::new();
+            event.encode(&mut bytes);
+            for cut in 1..bytes.len() {
+                let read = Event::read(&mut &bytes[..cut]).unwrap();
+                assert_eq!(read, Some(Err(Refusal::BadEvent)));
+            }
+        }
+        for kind in (0..=0).chain(6..=255) {
+            let read = Event::read(&mut &[kind; 20][..]).unwrap();
+            assert_eq!(read, Some(Err(Refusal::BadEvent)));
+        }
+    }
+}

@@ -1,0 +1,130 @@
+//! A link of document 01, at either side: its whole state, and what both the
+//! receiving and the sending of packets ask of it.
+
+mod opening;
+pub mod packet;
+mod receive;
+mod send;
+#[cfg(test)]
+mod tests;
+
+use crate::checksum::{Polynomial, CRC32, CRC32C};
+use crate::message::{Message, Side, Span};
+use crate::refusal::Refusal;
+use opening::Stage;
+use packet::{HANDSHAKE, NONCE, PING, PONG};
+
+pub use opening::{handshake_body, nonce_body, Nonce, FLAG_CRC32C, OUR_VERSION};
+
+#[derive(Clone)]
+pub struct Link {
+    side: Side,
+    /// Our setting.
+    crc32c_allowed: bool,
+    stage: Stage,
+    /// The number of the next packet in each direction.
+    incoming: u32,
+    outgoing: u32,
+    checksum: Polynomial,
+    /// What their Nonce said; a server answers it.
+    their_version: u8,
+    /// What their Handshake said, if they are the client.
+    crc32c_offered: bool,
+    /// The ID of our Ping that is not answered yet.
+    awaited: Option<u64>,
+    /// The ID of their Ping that we have not answered yet.
+    owed: Option<u64>,
+    closed: bool,
+}
+
+#[derive(Clone, Copy, Debug, PartialEq, Eq)]
+pub enum Received {
+    /// So many more bytes are needed.
+    Wait(usize),
+    Packet {
+        packet_type: u32,
+        /// How many of the lent bytes it took.
+        consumed: usize,
+        body: Span,
+        /// Their time minus ours, if it was a Nonce.
+        clock: Option<i64>,
+    },
+}
+
+#[derive(Clone, Copy)]
+pub enum Outgoing<'a> {
+    /// Our time and 16 random bytes.
+    Nonce(u32, [u8; 16]),
+    /// Our NetPID and theirs.
+    Handshake([u8; 12], [u8; 12]),
+    Ping(u64),
+    /// The ID is the one of the Ping that it answers.
+    Pong,
+    Message(Message<&'a [u8]>),
+}
+
+impl Outgoing<'_> {
+    pub fn packet_type(&self) -> u32 {
+        match self {
+            Outgoing::Nonce(..) => NONCE,
+            Outgoing::Handshake(..) => HANDSHAKE,
+            Outgoing::Ping(_) => PING,
+            Outgoing::Pong => PONG,
+            Outgoing::Message(message) => message.packet_type(),
+        }
+    }
+}
+
+impl Link {
+    pub fn new(side: Side, crc32c_allowed: bool) -> Link {
+        Link {
+            side,
+            crc32c_allowed,
+            stage: Stage::ClientNonce,
+            incoming: packet::FIRST_NUMBER,
+            outgoing: packet::FIRST_NUMBER,
+            checksum: CRC32,
+            their_version: 0,
+            crc32c_offered: false,
+            awaited: None,
+            owed: None,
+            closed: false,
+        }
+    }
+
+    pub fn is_closed(&self) -> bool {
+        self.closed
+    }
+
+    /// The number and the checksum that the next packet received must have.
+    pub fn expected(&self) -> (u32, Polynomial) {
+        (self.incoming, self.checksum)
+    }
+
+    fn is_turn_of(&self, side: Side) -> Result<(), Refusal> {
+        if self.closed {
+            return Err(Refusal::LinkClosed);
+        }
+        match self.stage.next() {
+            Some((sender, _)) if sender != side => Err(Refusal::NotOurTurn),
+            _ => Ok(()),
+        }
+    }
+
+    /// In the opening only the next type will do; after it, any but its two.
+    fn type_is_allowed(&self, packet_type: u32) -> bool {
+        match self.stage.next() {
+            Some((_, next)) => packet_type == next,
+            None => packet_type != NONCE && packet_type != HANDSHAKE,
+        }
+    }
+
+    /// At the server's Handshake, sent or received, which itself still has a
+    /// CRC-32. Nothing is sent between the client's Handshake and it, so both
+    /// directions switch here.
+    fn switch_checksum(&mut self, to_crc32c: bool) {
+        if to_crc32c {
+            self.checksum = CRC32C;
+        }
+    }
+}

@@ -1,0 +1,39 @@
+//! The refusal numbers of document 01.
+
+#[derive(Clone, Copy, Debug, PartialEq, Eq)]
+pub enum Refusal {
+    LengthTooShort = 1,
+    LengthTooLong = 2,
+    LengthInOpening = 3,
+    PacketNumber = 4,
+    TypeNotNow = 5,
+    Checksum = 6,
+    OpeningBodyShort = 7,
+    Clocks = 8,
+    Encryption = 9,
+    BeyondOffer = 10,
+    CutOff = 11,
+    QueryNumberZero = 12,
+    HeaderRepeated = 13,
+    NotCarried = 14,
+    PayloadAsHeader = 15,
+    BufferTooSmall = 16,
+    WrongSize = 17,
+    TextForm = 18,
+    NotThisWay = 19,
+    LinkClosed = 20,
+    PingOutOfTurn = 21,
+    NotOurTurn = 22,
+    OutOfRange = 30,
+    InFlightAlready = 31,
+    LoadFull = 32,
+    SharedRoomGone = 33,
+    NotInFlight = 34,
+    BadEvent = 35,
+}
+
+impl Refusal {
+    pub fn number(self) -> u8 {
+        self as u8
+    }
+}

@@ -1,0 +1,141 @@
+//! The link check's input and output: conversations, each of one link with a
+//! peer whose bytes are stored.
+//!
+//! A record is an op, for the newest link. Op 0 is a new link: side (0 client,
+//! 1 server) and whether CRC-32C is allowed. Op 1 receives: our time (4 bytes),
+//! then n (4 bytes) and the n bytes lent. Op 2 sends: see `Sending`; its line
+//! has both checksums of the whole lent buffer, since a checksum over a packet
+//! that ends with the same one is the same for every packet. A line ends with
+//! ` closed` if the link is closed after the op.
+
+use super::link_bodies;
+use super::link_closing;
+use super::link_fronts;
+use super::link_openings;
+use super::link_pings;
+use super::link_random;
+use super::link_sending::Sending;
+use super::link_turns;
+use super::message_cases::FILLING;
+use super::records::Records;
+use crate::checksum::{CRC32, CRC32C};
+use crate::generator::Generator;
+use crate::link::{Link, Received};
+use crate::message::Side;
+use crate::refusal::Refusal;
+
+pub const NEW: u8 = 0;
+pub const RECEIVE: u8 = 1;
+pub const SEND: u8 = 2;
+
+pub fn input() -> Vec<u8> {
+    let mut generator = Generator::new(0x11_4B);
+    let mut records = Vec::new();
+    link_openings::push(&mut records, &mut generator);
+    link_fronts::push(&mut records, &mut generator);
+    link_bodies::push(&mut records, &mut generator);
+    link_pings::push(&mut records, &mut generator);
+    link_turns::push(&mut records, &mut generator);
+    link_closing::push(&mut records);
+    link_random::push(&mut records, &mut generator);
+    records
+}
+
+pub fn output(records: &[u8]) -> Vec<u8> {
+    let mut records = Records(records);
+    let mut lines = String::new();
+    let mut link = None;
+    while let Some(op) = records.op() {
+        let line = match (op, &mut link) {
+            (NEW, _) => {
+                link = Some(new_link(&mut records));
+                Ok("link".to_string())
+            }
+            (RECEIVE, Some(link)) => receive_line(link, &mut records),
+            (SEND, Some(link)) => send_line(link, &mut records),
+            _ => unreachable!("op {op}, or no link before it"),
+        };
+        lines += &line.unwrap_or_else(|refusal| format!("no {}", refusal.number()));
+        if link.as_ref().is_some_and(Link::is_closed) {
+            lines += " closed";
+        }
+        lines.push('\n');
+    }
+    lines.into_bytes()
+}
+
+fn new_link(records: &mut Records) -> Link {
+    let side = if records.flag() {
+        Side::Server
+    } else {
+        Side::Client
+    };
+    Link::new(side, records.flag())
+}
+
+fn receive_line(link: &mut Link, records: &mut Records) -> Result<String, Refusal> {
+    let our_time = records.u32();
+    let line = match link.receive(records.run(), our_time)? {
+        Received::Wait(more) => format!("wait {more}"),
+        Received::Packet {
+            packet_type,
+            consumed,
+            body,
+            clock,
+        } => {
+            let packet = format!(
+                "packet {packet_type:08x} {consumed} {} {}",
+                body.at, body.len
+            );
+            clock.map_or(packet.clone(), |clock| format!("{packet} clock {clock}"))
+        }
+    };
+    Ok(line)
+}
+
+fn send_line(link: &mut Link, records: &mut Records) -> Result<String, Refusal> {
+    let (sending, room) = Sending::take(records);
+    let mut buffer = vec![FILLING; room];
+    let size = link.send(&sending.outgoing(), &mut buffer)?;
+    let (one, other) = (CRC32.of(&buffer), CRC32C.of(&buffer));
+    Ok(format!("sent {size} {one:08x} {other:08x}"))
+}
+
+#[cfg(test)]
+mod tests {
+    use super::*;
+
+    fn text() -> String {
+        String::from_utf8(output(&input())).unwrap()
+    }
+
+    #[test]
+    fn every_refusal_and_answer_occurs() {
+        let text = text();
+        let count = |part: &str| {
+            let words = |line: &&str| format!("{line} ").starts_with(part);
+            text.lines().filter(words).count()
+        };
+        let by_receive = (1..=10).chain([17, 20, 21, 22]);
+        for refusal in by_receive.chain([12, 15, 16, 19]) {
+            let part = format!("no {refusal} ");
+            assert!(count(&part) >= 20, "{part}: {}", count(&part));
+        }
+        for part in ["link ", "wait ", "packet ", "sent "] {
+            assert!(count(part) >= 500, "{part}: {}", count(part));
+        }
+    }
+
+    #[test]
+    fn closed_lines_are_refusals() {
+        let text = text();
+        for line in text.lines().filter(|line| line.ends_with(" closed")) {
+            assert!(line.starts_with("no "), "{line}");
+        }
+    }
+
+    #[test]
+    fn within_the_agreed_size() {
+        assert!(input().len() <= 2_000_000, "{}", input().len());
+    }
+}

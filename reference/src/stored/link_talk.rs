@@ -1,0 +1,210 @@
+//! A conversation in the making: the link whose calls are stored, and a peer
+//! that gives the bytes it receives.
+
+use super::link_cases::{NEW, RECEIVE, SEND};
+use super::link_sending::Sending;
+use super::message_cases::LONGEST;
+use super::records::{self, other, push_run, Draft};
+use crate::link::{handshake_body, nonce_body, packet, Link, OUR_VERSION};
+use crate::message::Side;
+use crate::refusal::Refusal;
+
+/// The time at both ends, where it is not the subject.
+pub const TIME: u32 = 1_763_200_000;
+
+/// Which of the two ends allow CRC-32C: ours, that is stored, and the peer's.
+pub const SETTINGS: [(bool, bool); 4] =
+    [(false, false), (false, true), (true, false), (true, true)];
+
+pub const SIDES: [Side; 2] = [Side::Client, Side::Server];
+
+/// How many packets an opening has.
+pub const OPEN: usize = 4;
+
+#[derive(Clone)]
+pub struct Talk {
+    pub side: Side,
+    pub time: u32,
+    link: Link,
+    peer: Link,
+    /// Packets of the opening that were exchanged.
+    opened: usize,
+    records: Vec<u8>,
+}
+
+impl Talk {
+    pub fn new(side: Side, (ours, theirs): (bool, bool)) -> Talk {
+        Talk {
+            side,
+            time: TIME,
+            link: Link::new(side, ours),
+            peer: Link::new(other(side), theirs),
+            opened: 0,
+            records: vec![NEW, (side == Side::Server).into(), ours.into()],
+        }
+    }
+
+    /// With the first `packets` of the opening exchanged.
+    pub fn after(packets: usize, side: Side, settings: (bool, bool)) -> Talk {
+        let mut talk = Talk::new(side, settings);
+        talk.open_until(packets);
+        talk
+    }
+
+    pub fn open_until(&mut self, packets: usize) {
+        while self.opened < packets {
+            let sending = match self.opened {
+                0 | 1 => Sending::nonce(self.time),
+                _ => Sending::handshake(),
+            };
+            self.pass(self.sender(), &sending);
+            self.opened += 1;
+        }
+    }
+
+    /// A sound packet from one end to the other.
+    pub fn pass(&mut self, sender: Side, sending: &Sending) {
+        if sender == self.side {
+            self.send(sending);
+        } else {
+            let packet = self.peer_sends(sending);
+            self.receive(&packet);
+        }
+    }
+
+    /// Has the link send it, in a buffer just long enough, and the peer
+    /// receive it.
+    pub fn send(&mut self, sending: &Sending) {
+        let room = self.size_of(sending).unwrap_or(100);
+        self.send_in(room, sending);
+    }
+
+    /// The size of the packet, if the link would send it now.
+    pub fn size_of(&self, sending: &Sending) -> Option<usize> {
+        let mut buffer = vec![0; LONGEST];
+        let sent = self.link.clone().send(&sending.outgoing(), &mut buffer);
+        sent.ok()
+    }
+
+    pub fn could_send(&self, sending: &Sending) -> bool {
+        self.size_of(sending).is_some()
+    }
+
+    /// Whether the next packet of the opening is ours.
+    pub fn must_send(&self) -> bool {
+        self.opened < OPEN && self.sender() == self.side
+    }
+
+    /// Who sends the next packet of the opening.
+    fn sender(&self) -> Side {
+        [Side::Client, Side::Server][self.opened % 2]
+    }
+
+    /// The same with a buffer of `room` bytes.
+    pub fn send_in(&mut self, room: usize, sending: &Sending) {
+        self.records.push(SEND);
+        sending.push(&mut self.records, room);
+        let mut buffer = vec![0; room];
+        if let Ok(size) = self.link.send(&sending.outgoing(), &mut buffer) {
+            // A peer that a conversation has left behind refuses; let it.
+            let _ = self.peer.receive(&buffer[..size], self.time);
+        }
+    }
+
+    /// The bytes of a packet that the peer sends now.
+    pub fn peer_sends(&mut self, sending: &Sending) -> Vec<u8> {
+        self.peer_tries(sending).expect("the peer can send it")
+    }
+
+    pub fn peer_tries(&mut self, sending: &Sending) -> Result<Vec<u8>, Refusal> {
+        let mut buffer = vec![0; LONGEST];
+        let size = self.peer.send(&sending.outgoing(), &mut buffer)?;
+        buffer.truncate(size);
+        Ok(buffer)
+    }
+
+    /// The next sound packet: of the opening, or a message after it.
+    pub fn next_packet(&mut self) -> Vec<u8> {
+        let message = match self.side {
+            Side::Client => Draft::new(records::ERROR, 12),
+            Side::Server => Draft::new(records::INVOKE, 12).actor(13),
+        };
+        let sending = match self.opened {
+            0 | 1 => Sending::nonce(self.time),
+            2 | 3 => Sending::handshake(),
+            _ => Sending::message(message, b"abcde"),
+        };
+        self.peer_sends(&sending)
+    }
+
+    /// Has the link look at these bytes. Refused or not: the stored output
+    /// will say.
+    pub fn receive(&mut self, bytes: &[u8]) {
+        self.records.push(RECEIVE);
+        self.records.extend(self.time.to_le_bytes());
+        push_run(&mut self.records, bytes);
+        let _ = self.link.receive(bytes, self.time);
+    }
+
+    /// A packet with the number and checksum that the link expects, whatever
+    /// the peer would send.
+    pub fn forged(&self, packet_type: u32, body: &[u8]) -> Vec<u8> {
+        let (number, checksum) = self.link.expected();
+        packet::whole(number, packet_type, body, checksum)
+    }
+
+    pub fn receive_forged(&mut self, packet_type: u32, body: &[u8]) {
+        let packet = self.forged(packet_type, body);
+        self.receive(&packet);
+    }
+
+    /// Ends an opening whose first `packets` are there without the peer, which
+    /// has been left out; `flag` is the one of its Handshake.
+    pub fn open_forged(&mut self, packets: usize, flag: bool) {
+        for packets in packets..OPEN {
+            let sender = [Side::Client, Side::Server][packets % 2];
+            match (sender == self.side, packets) {
+                (true, 0 | 1) => self.send(&Sending::nonce(self.time)),
+                (true, _) => self.send(&Sending::handshake()),
+                (false, 0 | 1) => {
+                    let body = nonce_body(OUR_VERSION, self.time, [9; 16]);
+                    self.receive_forged(packet::NONCE, &body);
+                }
+                (false, _) => {
+                    let body = handshake_body(flag, [1; 12], [2; 12]);
+                    self.receive_forged(packet::HANDSHAKE, &body);
+                }
+            }
+        }
+    }
+
+    /// The number that the link expects.
+    pub fn number(&self) -> u32 {
+        self.link.expected().0
+    }
+
+    pub fn is_closed(&self) -> bool {
+        self.link.is_closed()
+    }
+
+    /// Stores the conversation. The empty receive at its end tells a link that
+    /// is closed, one whose turn it is and one that waits apart.
+    pub fn store(mut self, records: &mut Vec<u8>) {
+        self.receive(&[]);
+        records.extend(self.records);
+    }
+}
+
+/// The stages at which a link receives: packets of the opening before it.
+pub fn receiving(side: Side) -> [usize; 3] {
+    match side {
+        Side::Client => [1, 3, OPEN],
+        Side::Server => [0, 2, OPEN],
+    }
+}
+
+/// A conversation at each stage where a link receives, for both sides.
+pub fn at_each_receive(settings: (bool, bool)) -> Vec<Talk> {
+    let stages = |side| receiving(side).map(|packets| Talk::after(packets, side, settings));
+    SIDES.into_iter().flat_map(stages).collect()
+}

@@ -1,0 +1,164 @@
+//! The walk's stored input and output: document 01's example for the program
+//! itself, and many runs over fresh tables for the walk check.
+//!
+//! A run is its first number (8 bytes, signed) and a length m (4 bytes), then
+//! m bytes of events. It gives the line `run N`, then the lines of the walk
+//! over the events, or only `no 30` if no table starts at N.
+
+use super::walk_scripts as scripts;
+use super::walk_scripts::Script;
+use crate::event::Event;
+use crate::numbers::{read_i64, read_u32};
+use crate::table::{Table, ROOM};
+use crate::traffic::{Profile, Traffic, CROWDED, MIXED, ROUGH};
+use crate::walk::{walk, write_refusal};
+
+const TOP: i64 = i64::MAX;
+
+pub fn example_input() -> Vec<u8> {
+    scripts::example().bytes
+}
+
+pub fn example_output(events: &[u8]) -> Vec<u8> {
+    let mut lines = Vec::new();
+    walk_run(1, events, &mut lines);
+    lines
+}
+
+pub fn input() -> Vec<u8> {
+    let mut runs = Runs::default();
+    for first in [1, 7, TOP, TOP - 1, TOP - 7] {
+        runs.push(first, scripts::example());
+        runs.push(first, scripts::loads(first));
+        runs.push(first, scripts::even_loads(first));
+        runs.push(first, scripts::refusals(first));
+        runs.push(first, scripts::late(first));
+        runs.push(first, scripts::drops(first));
+        runs.push(first, scripts::wrapping(first));
+    }
+    for first in [0, -1, -5, i64::MIN] {
+        runs.push(first, scripts::example());
+        runs.push(first, Script::default());
+    }
+    runs.push(1, Script::default());
+    bad_events(&mut runs);
+    random_runs(&mut runs);
+    // The last run is one that is skipped, so that its end is the input's.
+    runs.push(-5, scripts::example());
+    runs.bytes
+}
+
+/// Every unknown kind, and every kind cut at every length.
+fn bad_events(runs: &mut Runs) {
+    for kind in (0..=0).chain(6..=255) {
+        runs.push(1, scripts::unknown_kind(kind));
+    }
+    for event in [
+        Event::Ask(1, 2, 3),
+        Event::Reply(0, 7),
+        Event::Cancel(3, 77),
+        Event::Closed(3),
+        Event::Lost(0),
+    ] {
+        let whole = Script::default().then(event).bytes.len();
+        for length in 1..whole {
+            runs.push(7, scripts::cut(event, length));
+        }
+    }
+}
+
+fn random_runs(runs: &mut Runs) {
+    let firsts = [1, 7, TOP, TOP - 1, TOP - 7, 1 << 32];
+    for (turn, first) in firsts.into_iter().enumerate() {
+        let seed = 100 + 3 * turn as u64;
+        runs.push(first, random(seed, first, CROWDED, 1000));
+        runs.push(first, random(seed + 1, first, MIXED, 800));
+        runs.push(first, random(seed + 2, first, ROUGH, 450));
+    }
+}
+
+fn random(seed: u64, first: i64, profile: Profile, count: usize) -> Script {
+    let mut traffic = Traffic::new(seed, profile);
+    let mut table = Table::fresh(first).expect("a first number of at least 1");
+    let mut ends = [0; 2 * ROOM];
+    (0..count).fold(Script::default(), |script, _| {
+        let event = traffic.event(&table);
+        // Refused or not: the walk will find the same.
+        let _ = event.call(&mut table, &mut ends);
+        script.then(event)
+    })
+}
+
+#[derive(Default)]
+struct Runs {
+    bytes: Vec<u8>,
+}
+
+impl Runs {
+    fn push(&mut self, first: i64, events: Script) {
+        self.bytes.extend(first.to_le_bytes());
+        self.bytes.extend((events.bytes.len() as u32).to_le_bytes());
+        self.bytes.extend(events.bytes);
+    }
+}
+
+pub fn output(mut runs: &[u8]) -> Vec<u8> {
+    let mut lines = Vec::new();
+    while !runs.is_empty() {
+        let first = read_i64(runs, 0);
+        let m = read_u32(runs, 8) as usize;
+        let (events, others) = runs[12..].split_at(m);
+        lines.extend(format!("run {first}\n").bytes());
+        walk_run(first, events, &mut lines);
+        runs = others;
+    }
+    lines
+}
+
+fn walk_run(first: i64, mut events: &[u8], lines: &mut Vec<u8>) {
+    match Table::fresh(first) {
+        Ok(table) => walk(table, &mut events, lines),
+        Err(refusal) => write_refusal(lines, refusal),
+    }
+    .expect("memory can be read and written");
+}
+
+#[cfg(test)]
+mod tests {
+    use super::*;
+
+    const EXAMPLE: &str = "ask 1\nno 31\nask 2\nreply 4 77\nno 34\ncancel 0 1\n\
+                           ask 3\nno 12\nlost 1\ndrop 3 77\nclosed 0\n";
+
+    #[test]
+    fn the_example_of_document_01() {
+        let output = example_output(&example_input());
+        assert_eq!(String::from_utf8(output).unwrap(), EXAMPLE);
+    }
+
+    #[test]
+    fn every_refusal_of_the_walk_occurs() {
+        let text = String::from_utf8(output(&input())).unwrap();
+        let count = |line: &str| text.lines().filter(|&other| other == line).count();
+        for (refusal, least) in [(12, 50), (30, 100), (31, 50), (32, 50), (33, 50), (34, 50)] {
+            assert!(count(&format!("no {refusal}")) >= least, "no {refusal}");
+        }
+        // 251 unknown kinds and 30 cut records, and no other.
+        assert_eq!(count("no 35"), 281);
+        assert_eq!(count("no 16"), 0);
+        assert!(count("closed 64") > 0 && count("lost 16") > 0);
+        assert!(count("closed 0") > 0 && count("lost 0") > 0);
+        assert!(count(&format!("ask {TOP}")) > 0);
+    }
+
+    #[test]
+    fn within_the_agreed_size() {
+        let input = input();
+        let mut rest = &input[..];
+        while !rest.is_empty() {
+            let m = read_u32(rest, 8) as usize;
+            assert!(m <= 60_000, "{m}");
+            rest = &rest[12 + m..];
+        }
+    }
+}

@@ -1,0 +1,156 @@
+//! The book of document 01, word for word: a plain list of entries, searched
+//! from the front. Slow and obvious; the tests hold the table against it.
+
+use super::End;
+use crate::event::{Answer, Event};
+use crate::refusal::Refusal;
+
+pub struct Entry {
+    pub link: u8,
+    pub front_number: i64,
+    pub publisher: u8,
+    pub publisher_number: i64,
+}
+
+pub struct Book {
+    /// In the order of acceptance.
+    pub entries: Vec<Entry>,
+    pub first: i64,
+    pub last: [Option<i64>; 8],
+}
+
+impl Book {
+    pub fn fresh(first: i64) -> Result<Book, Refusal> {
+        match first {
+            1.. => Ok(Book {
+                entries: Vec::new(),
+                first,
+                last: [None; 8],
+            }),
+            _ => Err(Refusal::OutOfRange),
+        }
+    }
+
+    pub fn call(&mut self, event: Event, ends: &mut [i64]) -> Result<Answer, Refusal> {
+        match event {
+            Event::Ask(link, number, publisher) => {
+                self.ask(link, number, publisher).map(Answer::Ask)
+            }
+            Event::Reply(publisher, number) => self.reply(publisher, number).map(Answer::Reply),
+            Event::Cancel(link, number) => self.cancel(link, number).map(Answer::Cancel),
+            Event::Closed(link) => self.closed(link, ends).map(Answer::Closed),
+            Event::Lost(publisher) => self.lost(publisher, ends).map(Answer::Lost),
+        }
+    }
+
+    pub fn load(&self, publisher: u8) -> usize {
+        let of_publisher = |entry: &&Entry| entry.publisher == publisher;
+        self.entries.iter().filter(of_publisher).count()
+    }
+
+    fn ask(&mut self, link: u8, front_number: i64, publisher: u8) -> Result<i64, Refusal> {
+        if link > 31 || publisher > 7 {
+            return Err(Refusal::OutOfRange);
+        }
+        if front_number == 0 {
+            return Err(Refusal::QueryNumberZero);
+        }
+        if self.of_front(link, front_number).is_some() {
+            return Err(Refusal::InFlightAlready);
+        }
+        let sum: usize = (0..8).map(|p| self.load(p).max(4)).sum();
+        match self.load(publisher) {
+            0..4 => {}
+            4..16 if sum == 64 => return Err(Refusal::SharedRoomGone),
+            4..16 => {}
+            _ => return Err(Refusal::LoadFull),
+        }
+        let publisher_number = self.next(publisher);
+        self.last[usize::from(publisher)] = Some(publisher_number);
+        self.entries.push(Entry {
+            link,
+            front_number,
+            publisher,
+            publisher_number,
+        });
+        Ok(publisher_number)
+    }
+
+    fn next(&self, publisher: u8) -> i64 {
+        let after = |number| if number == i64::MAX { 1 } else { number + 1 };
+        let last = self.last[usize::from(publisher)];
+        let mut number = last.map_or(self.first, after);
+        while self.of_publisher(publisher, number).is_some() {
+            number = after(number);
+        }
+        number
+    }
+
+    fn of_front(&self, link: u8, number: i64) -> Option<usize> {
+        let this = |entry: &Entry| entry.link == link && entry.front_number == number;
+        self.entries.iter().position(this)
+    }
+
+    fn of_publisher(&self, publisher: u8, number: i64) -> Option<usize> {
+        let this = |entry: &Entry| entry.publisher == publisher && entry.publisher_number == number;
+        self.entries.iter().position(this)
+    }
+
+    fn reply(&mut self, publisher: u8, number: i64) -> Result<End, Refusal> {
+        if publisher > 7 {
+            return Err(Refusal::OutOfRange);
+        }
+        if number == 0 {
+            return Err(Refusal::QueryNumberZero);
+        }
+        let place = self.of_publisher(publisher, number);
+        let entry = self.entries.remove(place.ok_or(Refusal::NotInFlight)?);
+        Ok((entry.link, entry.front_number))
+    }
+
+    fn cancel(&mut self, link: u8, number: i64) -> Result<End, Refusal> {
+        if link > 31 {
+            return Err(Refusal::OutOfRange);
+        }
+        if number == 0 {
+            return Err(Refusal::QueryNumberZero);
+        }
+        let place = self.of_front(link, number);
+        let entry = self.entries.remove(place.ok_or(Refusal::NotInFlight)?);
+        Ok((entry.publisher, entry.publisher_number))
+    }
+
+    fn closed(&mut self, link: u8, ends: &mut [i64]) -> Result<usize, Refusal> {
+        if link > 31 {
+            return Err(Refusal::OutOfRange);
+        }
+        let of_link = self.entries.iter().filter(|entry| entry.link == link);
+        let other_ends: Vec<i64> = of_link
+            .flat_map(|entry| [i64::from(entry.publisher), entry.publisher_number])
+            .collect();
+        hand_out(&other_ends, ends)?;
+        self.entries.retain(|entry| entry.link != link);
+        Ok(other_ends.len() / 2)
+    }
+
+    fn lost(&mut self, publisher: u8, ends: &mut [i64]) -> Result<usize, Refusal> {
+        if publisher > 7 {
+            return Err(Refusal::OutOfRange);
+        }
+        let of_publisher = self.entries.iter().filter(|e| e.publisher == publisher);
+        let other_ends: Vec<i64> = of_publisher
+            .flat_map(|entry| [i64::from(entry.link), entry.front_number])
+            .collect();
+        hand_out(&other_ends, ends)?;
+        self.entries.retain(|entry| entry.publisher != publisher);
+        Ok(other_ends.len() / 2)
+    }
+}
+
+fn hand_out(other_ends: &[i64], ends: &mut [i64]) -> Result<(), Refusal> {
+    if ends.len() < other_ends.len() {
+        return Err(Refusal::BufferTooSmall);
+    }
+    ends[..other_ends.len()].copy_from_slice(other_ends);
+    Ok(())
+}

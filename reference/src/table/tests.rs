@@ -1,0 +1,189 @@
+use super::book::Book;
+use super::*;
+use crate::event::Event;
+use crate::generator::Generator;
+use crate::traffic::{self, Profile, Traffic};
+
+fn fresh(first: i64) -> Table {
+    Table::fresh(first).unwrap_or_else(|_| panic!("{first} refused"))
+}
+
+/// A table in which publisher p has `loads[p]` requests, numbered from 1 by
+/// front links 0 to 7 in turn.
+fn with_loads(loads: [usize; 8]) -> Table {
+    let mut table = fresh(1);
+    for (publisher, load) in loads.into_iter().enumerate() {
+        for number in 1..=load {
+            let link = publisher as u8;
+            let accepted = table.ask(link, number as i64, publisher as u8);
+            assert_eq!(accepted, Ok(number as i64));
+        }
+    }
+    table
+}
+
+#[test]
+fn the_first_number_is_at_least_1() {
+    for first in [0, -1, -5, i64::MIN] {
+        assert_eq!(Table::fresh(first).err(), Some(Refusal::OutOfRange));
+    }
+    for first in [1, 7, i64::MAX] {
+        assert_eq!(fresh(first).ask(0, 1, 0), Ok(first));
+    }
+}
+
+#[test]
+fn the_loads_of_document_01() {
+    let mut table = with_loads([16, 16, 12, 0, 0, 0, 0, 0]);
+    assert_eq!(table.ask(9, 1, 2), Err(Refusal::SharedRoomGone));
+    assert_eq!(table.ask(9, 1, 0), Err(Refusal::LoadFull));
+    for number in 1..=4 {
+        assert_eq!(table.ask(9, number, 3), Ok(number));
+    }
+    assert_eq!(table.ask(9, 5, 3), Err(Refusal::SharedRoomGone));
+    assert_eq!(table.cancel(0, 5), Ok((0, 5)));
+    assert_eq!(table.ask(9, 5, 3), Ok(5));
+}
+
+#[test]
+fn every_reserve_can_be_used() {
+    let mut table = with_loads([16, 16, 12, 0, 0, 0, 0, 0]);
+    for publisher in 3..8 {
+        for number in 1..=4 {
+            assert_eq!(table.ask(20 + publisher, number, publisher), Ok(number));
+        }
+    }
+    assert_eq!(table.count(), ROOM);
+    for publisher in 2..8 {
+        let refused = table.ask(30, 1, publisher);
+        assert_eq!(refused, Err(Refusal::SharedRoomGone));
+    }
+}
+
+#[test]
+fn the_order_of_refusals() {
+    let mut table = with_loads([16, 16, 12, 0, 0, 0, 0, 0]);
+    assert_eq!(table.ask(32, 0, 0), Err(Refusal::OutOfRange));
+    assert_eq!(table.ask(0, 0, 8), Err(Refusal::OutOfRange));
+    assert_eq!(table.ask(0, 0, 0), Err(Refusal::QueryNumberZero));
+    assert_eq!(table.ask(0, 1, 0), Err(Refusal::InFlightAlready));
+    assert_eq!(table.ask(0, 1, 2), Err(Refusal::InFlightAlready));
+    assert_eq!(table.reply(8, 0), Err(Refusal::OutOfRange));
+    assert_eq!(table.reply(7, 0), Err(Refusal::QueryNumberZero));
+    assert_eq!(table.reply(7, -1), Err(Refusal::NotInFlight));
+    assert_eq!(table.cancel(32, 0), Err(Refusal::OutOfRange));
+    assert_eq!(table.cancel(31, 0), Err(Refusal::QueryNumberZero));
+    assert_eq!(table.cancel(31, 1), Err(Refusal::NotInFlight));
+    assert_eq!(table.closed(32, &mut []), Err(Refusal::OutOfRange));
+    assert_eq!(table.lost(8, &mut []), Err(Refusal::OutOfRange));
+}
+
+#[test]
+fn a_slice_too_small_changes_nothing() {
+    let mut table = with_loads([3, 0, 0, 0, 0, 0, 0, 0]);
+    let mut ends = [-9; 5];
+    assert_eq!(table.lost(0, &mut ends), Err(Refusal::BufferTooSmall));
+    assert_eq!(table.closed(0, &mut ends), Err(Refusal::BufferTooSmall));
+    assert_eq!(ends, [-9; 5]);
+    let mut ends = [-9; 7];
+    assert_eq!(table.closed(0, &mut ends), Ok(3));
+    assert_eq!(ends, [0, 1, 0, 2, 0, 3, -9]);
+    assert_eq!(table.lost(0, &mut []), Ok(0));
+}
+
+#[test]
+fn oldest_accepted_first_though_slots_are_used_again() {
+    let mut table = with_loads([4, 0, 0, 0, 0, 0, 0, 0]);
+    assert_eq!(table.cancel(0, 1), Ok((0, 1)));
+    assert_eq!(table.reply(0, 3), Ok((0, 3)));
+    assert_eq!(table.ask(0, -8, 5), Ok(1));
+    assert_eq!(table.ask(0, -9, 0), Ok(5));
+    let mut ends = [0; 8];
+    assert_eq!(table.closed(0, &mut ends), Ok(4));
+    assert_eq!(ends, [0, 2, 0, 4, 5, 1, 0, 5]);
+}
+
+#[test]
+fn numbers_in_flight_are_passed_over() {
+    let mut table = with_loads([4, 0, 0, 0, 0, 0, 0, 0]);
+    assert_eq!(table.reply(0, 3), Ok((0, 3)));
+    // As if the numbering had gone nearly round: no list of calls that can
+    // be run gets here from a fresh table.
+    table.next[0] = i64::MAX;
+    assert_eq!(table.ask(1, 1, 0), Ok(i64::MAX));
+    assert_eq!(table.ask(1, 2, 0), Ok(3));
+    assert_eq!(table.ask(1, 3, 0), Ok(5));
+    assert_eq!(table.ask(1, 4, 1), Ok(1));
+}
+
+/// Moves a publisher's numbering back to just before a request in flight, or
+/// to the largest numbers, on both sides alike.
+fn turn_numbering(generator: &mut Generator, table: &mut Table, book: &mut Book) {
+    let publisher = generator.below(8) as u8;
+    let of_publisher = |request: &&Request| request.publisher.0 == publisher;
+    let in_flight = table.in_flight().find(of_publisher);
+    let last = match in_flight {
+        Some(request) if request.publisher.1 > 2 => request.publisher.1 - 2,
+        _ => i64::MAX - generator.below(3) as i64,
+    };
+    table.next[usize::from(publisher)] = successor(last);
+    book.last[usize::from(publisher)] = Some(last);
+}
+
+/// Runs both on the same random calls; compares every answer, every lent
+/// slice and every load.
+fn compare(seed: u64, first: i64, profile: Profile, calls: u32) {
+    let mut generator = Generator::new(seed);
+    let mut traffic = Traffic::new(seed, profile);
+    let (mut table, mut book) = (fresh(first), Book::fresh(first).ok().unwrap());
+    for _ in 0..calls {
+        if generator.below(200) == 0 {
+            turn_numbering(&mut generator, &mut table, &mut book);
+        }
+        let event = traffic.event(&table);
+        let length = generator.pick(&[0, 1, 2, 9, 31, 32, 128, 130]);
+        let mut ours: Vec<i64> = (0..length).map(|_| generator.draw() as i64).collect();
+        let mut theirs = ours.clone();
+        let answer = event.call(&mut table, &mut ours);
+        assert_eq!(answer, book.call(event, &mut theirs), "{event:?}");
+        assert_eq!(ours, theirs, "{event:?}");
+        let loads: [usize; 8] = std::array::from_fn(|p| book.load(p as u8));
+        assert_eq!(table.loads, loads, "{event:?}");
+        assert_eq!(table.count(), book.entries.len());
+    }
+}
+
+#[test]
+fn agrees_with_the_book() {
+    let profiles = [traffic::CROWDED, traffic::MIXED, traffic::ROUGH];
+    for (seed, first) in [1, 7, i64::MAX, i64::MAX - 30].into_iter().enumerate() {
+        for (turn, profile) in profiles.into_iter().enumerate() {
+            compare((3 * seed + turn) as u64, first, profile, 40_000);
+        }
+    }
+}
+
+/// Calls with arguments taken blindly from small ranges, so that nothing
+/// depends on what the traffic thinks worth asking.
+#[test]
+fn agrees_with_the_book_on_blind_calls() {
+    let mut generator = Generator::new(99);
+    let (mut table, mut book) = (fresh(1), Book::fresh(1).ok().unwrap());
+    for _ in 0..100_000 {
+        let link = generator.below(34) as u8;
+        let publisher = generator.below(9) as u8;
+        let number = generator.below(12) as i64 - 4;
+        let last = book.last.get(usize::from(publisher)).copied().flatten();
+        let event = match generator.below(40) {
+            0 => Event::Closed(link),
+            1 => Event::Lost(publisher),
+            2..=9 => Event::Cancel(link, number),
+            10..=19 => Event::Reply(publisher, last.unwrap_or(8) - number),
+            _ => Event::Ask(link, number, publisher),
+        };
+        let (mut ours, mut theirs) = ([7; 20], [7; 20]);
+        let answer = event.call(&mut table, &mut ours);
+        assert_eq!(answer, book.call(event, &mut theirs), "{event:?}");
+        assert_eq!(ours, theirs, "{event:?}");
+    }
+}

@@ -1,0 +1,78 @@
+//! The relay walk of document 01: events in, one line for each out.
+
+use crate::event::{Answer, Event};
+use crate::refusal::Refusal;
+use crate::table::{End, Table, ROOM};
+use std::io::{self, BufRead, Write};
+
+/// Walks over the events of `input` until they end or one cannot be read.
+///
+/// Writes line by line: the output, too, is to be buffered.
+pub fn walk(mut table: Table, input: &mut impl BufRead, output: &mut impl Write) -> io::Result<()> {
+    // Room for every request, so 16 never comes.
+    let mut ends = [0; 2 * ROOM];
+    while let Some(event) = Event::read(input)? {
+        let event = match event {
+            Ok(event) => event,
+            Err(refusal) => return write_refusal(output, refusal),
+        };
+        match event.call(&mut table, &mut ends) {
+            Ok(answer) => write_answer(output, answer, &ends)?,
+            Err(refusal) => write_refusal(output, refusal)?,
+        }
+    }
+    Ok(())
+}
+
+pub fn write_refusal(output: &mut impl Write, refusal: Refusal) -> io::Result<()> {
+    writeln!(output, "no {}", refusal.number())
+}
+
+fn write_answer(output: &mut impl Write, answer: Answer, ends: &[i64]) -> io::Result<()> {
+    match answer {
+        Answer::Ask(number) => writeln!(output, "ask {number}"),
+        Answer::Reply(front) => write_end(output, "reply", front),
+        Answer::Cancel(publisher) => write_end(output, "cancel", publisher),
+        Answer::Closed(count) => write_drops(output, "closed", &ends[..2 * count]),
+        Answer::Lost(count) => write_drops(output, "lost", &ends[..2 * count]),
+    }
+}
+
+fn write_end(output: &mut impl Write, word: &str, (side, number): End) -> io::Result<()> {
+    writeln!(output, "{word} {side} {number}")
+}
+
+fn write_drops(output: &mut impl Write, word: &str, ends: &[i64]) -> io::Result<()> {
+    writeln!(output, "{word} {}", ends.len() / 2)?;
+    for end in ends.chunks_exact(2) {
+        writeln!(output, "drop {} {}", end[0], end[1])?;
+    }
+    Ok(())
+}
+
+#[cfg(test)]
+mod tests {
+    use super::*;
+
+    fn lines(bytes: &[u8]) -> String {
+        let mut output = Vec::new();
+        walk(Table::fresh(1).unwrap(), &mut &bytes[..], &mut output).unwrap();
+        String::from_utf8(output).unwrap()
+    }
+
+    #[test]
+    fn no_events_no_lines() {
+        assert_eq!(lines(&[]), "");
+    }
+
+    #[test]
+    fn a_bad_event_stops_the_walk() {
+        assert_eq!(lines(&[4, 0, 6, 4, 0]), "closed 0\nno 35\n");
+        assert_eq!(lines(&[5, 0, 2, 0, 1]), "lost 0\nno 35\n");
+    }
+
+    #[test]
+    fn other_refusals_do_not() {
+        assert_eq!(lines(&[4, 32, 5, 8, 5, 7]), "no 30\nno 30\nlost 0\n");
+    }
+}
