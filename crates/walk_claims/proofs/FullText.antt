@@ -56,7 +56,7 @@ full-is (suc k) t es = full-is-at t (eventOf es) (callsFrom k (drop (recordSize 
 
 -- ---- as many turns as bytes are enough
 
-positive : (n : ℕ) → (n ≡ 0 → ⊥) → 0 < n
+pub positive : (n : ℕ) → (n ≡ 0 → ⊥) → 0 < n
 positive zero h = absurd (h refl)
 positive (suc n) h = omega arith
 

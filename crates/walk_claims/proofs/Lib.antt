@@ -3,3 +3,4 @@ pub mod FullText
 pub mod SameEvent
 pub mod Resume
 pub mod ProgramText
+pub mod Bounds

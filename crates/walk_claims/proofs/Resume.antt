@@ -27,7 +27,7 @@ full t es = fullFrom (length es) t es
 abbrev pub withRest : Outcome → List ℕ → List ℕ
 withRest o es = o .text ++ pick (o .stopped) [] (full (o .table) (drop (o .consumed) es))
 
-abbrev stepOf : Bool → Bool → Bool → Table → List ℕ → Outcome → Outcome
+abbrev pub stepOf : Bool → Bool → Bool → Table → List ℕ → Outcome → Outcome
 stepOf w f z t lines on = pick w (ends t [] false) (pick f (ends t [] false) (pick z (ends t lines true) on))
 
 step-is : (j : ℕ) (t : Table) (es : List ℕ) (room : ℕ) (last : Bool)

@@ -1,2 +1,3 @@
--- The statement.
+-- The statements.
 pub mod ProgramText
+pub mod Bounds

@@ -1,4 +1,5 @@
 // Theorems about crate `walk`, and nothing that runs. The statement is in specs/ProgramText.antt, its proof in proofs/.
 // On a fresh table the walk's text is the model's: decode the events into calls, run the model, render what is heard (`program-text`).
 // It holds of one call with room enough, and of any cutting of the events into pieces with any room for each call.
+// specs/Bounds.antt: no call consumes or writes more than there is, and with 4,096 bytes of room each call moves on (`bounds`).
 // Nothing here speaks of input or output; program `relay_walk` hands the pieces over as it reads them.

@@ -2,11 +2,6 @@
 use borrow.Author.Needs.{needs}
 use Rattle.relay_walk.proofs.main.Statement.{statement}
 use Rattle.relay_walk.proofs.main.Tie as tie
-use Rattle.relay_walk.proofs.main.Reads as reads
-use Rattle.relay_walk.proofs.main.Lts as lts
-use Rattle.inflight.proofs.fresh.Reads as fresh-reads
-use Rattle.io.proofs.large_buffer.Reads as large-buffer-reads
-use Rattle.relay_walk.proofs.step.Reads as step-reads
 
 abbrev Inv-loop : tie.InvT-loop
 Inv-loop t₀ events₀ out₀ have₀ turns₀ t events out have turns = Unit {0}

@@ -5,8 +5,6 @@ use lib.ListN.{length}
 use borrow.Author.Needs.{needs}
 use Rattle.relay_walk.proofs.move_front.Statement.{statement}
 use Rattle.relay_walk.proofs.move_front.Tie as tie
-use Rattle.relay_walk.proofs.move_front.Reads as reads
-use Rattle.relay_walk.proofs.move_front.Lts as lts
 
 abbrev Inv-loop : tie.InvT-loop
 Inv-loop buf₀ from end n i₀ buf i = length buf ≡ length buf₀

@@ -2,10 +2,6 @@
 use borrow.Author.Needs.{needs}
 use Rattle.walk_check.proofs.main.Statement.{statement}
 use Rattle.walk_check.proofs.main.Tie as tie
-use Rattle.walk_check.proofs.main.Reads as reads
-use Rattle.walk_check.proofs.main.Lts as lts
-use Rattle.io.proofs.large_buffer.Reads as large-buffer-reads
-use Rattle.walk_check.proofs.run.Reads as run-reads
 
 abbrev Inv-loop : tie.InvT-loop
 Inv-loop events₀ out₀ turns₀ events out turns = Unit {0}

@@ -4,11 +4,6 @@ use lib.ListN.{length}
 use borrow.Author.Needs.{needs}
 use Rattle.walk_check.proofs.print_walk.Statement.{statement}
 use Rattle.walk_check.proofs.print_walk.Tie as tie
-use Rattle.walk_check.proofs.print_walk.Reads as reads
-use Rattle.walk_check.proofs.print_walk.Lts as lts
-use Rattle.io.proofs.write_all.Reads as write-all-reads
-use Rattle.walk.proofs.walk.Reads as walk-reads
-use Rattle.walk_check.proofs.least.Reads as least-reads
 
 abbrev Inv-loop : tie.InvT-loop
 Inv-loop events out₀ t₀ at₀ turns₀ out t at turns = length out ≡ length out₀

@@ -1,13 +1,10 @@
+-- The event of a kind, a row for each kind.
+-- Assumes nothing.
 use Rattle.walk.specs.Events.{bodyOf}
 use borrow.Author.Tests.{eq-eqb, ne-eqb}
 use borrow.Author.Needs.{needs}
 use Rattle.walk.proofs.events.body.Statement.{statement}
 use Rattle.walk.proofs.events.body.Tie as tie
-use Rattle.walk.proofs.events.body.Reads as reads
-use Rattle.walk.proofs.events.body.Lts as lts
-use Rattle.walk.proofs.events.byte_at.Reads as byte-at-reads
-use Rattle.walk.proofs.events.front_number.Reads as front-number-reads
-use Rattle.walk.proofs.events.publisher_number.Reads as publisher-number-reads
 
 byte-at-requires : tie.Need-byte-at-requires
 byte-at-requires c κs = search needs

@@ -1,9 +1,9 @@
+-- The length of a kind's body, a row for each kind.
+-- Assumes nothing.
 use Rattle.walk.specs.Events.{bodySize}
 use borrow.Author.Tests.{eq-eqb, ne-eqb}
 use Rattle.walk.proofs.events.body_size.Statement.{statement}
 use Rattle.walk.proofs.events.body_size.Tie as tie
-use Rattle.walk.proofs.events.body_size.Reads as reads
-use Rattle.walk.proofs.events.body_size.Lts as lts
 
 returns : tie.Need-returns
 unfolding bodySize

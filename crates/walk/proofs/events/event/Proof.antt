@@ -1,13 +1,10 @@
+-- What stands at the front of some bytes: each return is a row of the definition.
+-- Assumes nothing.
 use Rattle.walk.specs.Events.{eventOf}
 use borrow.Author.Tests.{eq-eqb, le-leb, le-ltb, lt-leb, lt-ltb, ne-eqb}
 use borrow.Author.Needs.{needs}
 use Rattle.walk.proofs.events.event.Statement.{statement}
 use Rattle.walk.proofs.events.event.Tie as tie
-use Rattle.walk.proofs.events.event.Reads as reads
-use Rattle.walk.proofs.events.event.Lts as lts
-use Rattle.walk.proofs.events.body.Reads as body-reads
-use Rattle.walk.proofs.events.body_size.Reads as body-size-reads
-use Rattle.walk.proofs.events.byte_at.Reads as byte-at-reads
 
 returns : tie.Need-returns
 unfolding eventOf

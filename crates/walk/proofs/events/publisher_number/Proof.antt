@@ -6,9 +6,6 @@ use Rattle.walk.specs.Events.{publisherNumber}
 use borrow.Author.Needs.{needs}
 use Rattle.walk.proofs.events.publisher_number.Statement.{statement}
 use Rattle.walk.proofs.events.publisher_number.Tie as tie
-use Rattle.walk.proofs.events.publisher_number.Reads as reads
-use Rattle.walk.proofs.events.publisher_number.Lts as lts
-use Rattle.wire.proofs.i64_at.Reads as i64-at-reads
 
 i64-at-requires : tie.Need-i64-at-requires
 i64-at-requires c κs = search needs

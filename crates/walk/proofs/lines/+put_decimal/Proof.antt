@@ -1,3 +1,5 @@
+-- The digits of a number: those before the last by the call of itself, then the last. The measure is the number.
+-- Assumes nothing.
 use mathlib.Core.Path.{_≡_, refl, sym, ap, _∙_}
 use mathlib.Core.List.{List, [], _∷_}
 use Prim.Native.Nat.{_+_, _/_, _%_}

@@ -15,8 +15,6 @@ use Rattle.walk.proofs.DistanceLaws.{Left, left, Right, right}
 use borrow.Author.Needs.{needs}
 use Rattle.walk.proofs.lines.distance.Statement.{statement}
 use Rattle.walk.proofs.lines.distance.Tie as tie
-use Rattle.walk.proofs.lines.distance.Reads as reads
-use Rattle.walk.proofs.lines.distance.Lts as lts
 
 below : (c : tie.Then1) → Left (c .before .args .n)
 below c = left (c .before .args .n) (c .before .fits .n) (c .if1 .taken)

@@ -5,8 +5,6 @@ use lib.ListN.{List·getD-eq-default}
 use borrow.Author.Needs.{needs}
 use Rattle.walk.proofs.lines.number_at.Statement.{statement}
 use Rattle.walk.proofs.lines.number_at.Tie as tie
-use Rattle.walk.proofs.lines.number_at.Reads as reads
-use Rattle.walk.proofs.lines.number_at.Lts as lts
 
 returns : tie.Need-returns
 returns c = sym (List·getD-eq-default (c .before .args .ends .now) (pos 0) (c .if1 .taken))

@@ -4,8 +4,6 @@ use lib.Seq.{set-out}
 use borrow.Author.Needs.{needs}
 use Rattle.walk.proofs.lines.put_byte.Statement.{statement}
 use Rattle.walk.proofs.lines.put_byte.Tie as tie
-use Rattle.walk.proofs.lines.put_byte.Reads as reads
-use Rattle.walk.proofs.lines.put_byte.Lts as lts
 
 slice-write-out : tie.Need-slice-write-out
 slice-write-out c = search needs

@@ -1,3 +1,5 @@
+-- A line of the two numbers of one dropped request.
+-- Assumes nothing.
 use mathlib.Core.Path.{_∙_}
 use mir.Syntax.{w64}
 use Rattle.wire.proofs.SignLaws.{back}
@@ -6,10 +8,6 @@ use Rattle.walk.proofs.LineLaws.{pair-is, text-is}
 use borrow.Author.Needs.{needs}
 use Rattle.walk.proofs.lines.put_drop.Statement.{statement}
 use Rattle.walk.proofs.lines.put_drop.Tie as tie
-use Rattle.walk.proofs.lines.put_drop.Reads as reads
-use Rattle.walk.proofs.lines.put_drop.Lts as lts
-use Rattle.walk.proofs.lines.number_at.Reads as number-at-reads
-use Rattle.walk.proofs.lines.put_pair.Reads as put-pair-reads
 
 mul-number-at : tie.Need-mul-number-at
 mul-number-at c = search needs

@@ -1,3 +1,5 @@
+-- The lines of dropped requests: after i turns those of the first i.
+-- Assumes nothing.
 use mathlib.Core.Path.{_≡_, refl, sym, ap, _∙_}
 use Prim.Native.Nat.{ℕ, _+_, _-_, _*_, _≤_}
 use native.Mathlib.Omega.{arith}
@@ -10,9 +12,6 @@ use Rattle.walk.specs.Lines.{dropLine, dropLines}
 use Rattle.walk.proofs.LineLaws.{drop-most, drops-most, text-then, text-is}
 use Rattle.walk.proofs.lines.put_drops.Statement.{statement}
 use Rattle.walk.proofs.lines.put_drops.Tie as tie
-use Rattle.walk.proofs.lines.put_drops.Reads as reads
-use Rattle.walk.proofs.lines.put_drops.Lts as lts
-use Rattle.walk.proofs.lines.put_drop.Reads as put-drop-reads
 
 abbrev Inv-loop : tie.InvT-loop
 Inv-loop out₀ at ends n to₀ i₀ out to i = (i ≤ n) × (length out ≡ length out₀) × ((to ≡ at + length (dropLines i ends)) × (out ≡ sets out₀ at (dropLines i ends)))

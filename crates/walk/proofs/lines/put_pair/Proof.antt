@@ -1,3 +1,5 @@
+-- A word, a number, a space, a number and a line end, one after another.
+-- Assumes nothing.
 use mir.Val.{toZ, ofZ}
 use mathlib.Core.Path.{_≡_, refl, ap}
 use mathlib.Core.List.{List, [], _∷_, _++_}
@@ -9,10 +11,6 @@ use Rattle.walk.proofs.LineLaws.{signed-most, text-then, text-is}
 use borrow.Author.Needs.{needs}
 use Rattle.walk.proofs.lines.put_pair.Statement.{statement}
 use Rattle.walk.proofs.lines.put_pair.Tie as tie
-use Rattle.walk.proofs.lines.put_pair.Reads as reads
-use Rattle.walk.proofs.lines.put_pair.Lts as lts
-use Rattle.walk.proofs.lines.put_byte.Reads as put-byte-reads
-use Rattle.walk.proofs.lines.put_signed.Reads as put-signed-reads
 
 copy-requires : tie.Need-copy-requires
 copy-requires c κs = search needs

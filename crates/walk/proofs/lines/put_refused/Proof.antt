@@ -1,3 +1,5 @@
+-- The line of a refusal.
+-- Assumes nothing.
 use mathlib.Core.Path.{ap}
 use native.Mathlib.Omega.{arith}
 use lib.IntN.{pos}
@@ -8,9 +10,6 @@ use Rattle.walk.proofs.LineLaws.{text-front}
 use borrow.Author.Needs.{needs}
 use Rattle.walk.proofs.lines.put_refused.Statement.{statement}
 use Rattle.walk.proofs.lines.put_refused.Tie as tie
-use Rattle.walk.proofs.lines.put_refused.Reads as reads
-use Rattle.walk.proofs.lines.put_refused.Lts as lts
-use Rattle.walk.proofs.lines.put_line.Reads as put-line-reads
 
 slice-aggregate-put-line : tie.Need-slice-aggregate-put-line
 slice-aggregate-put-line c = search needs

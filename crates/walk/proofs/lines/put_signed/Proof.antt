@@ -1,3 +1,5 @@
+-- A sign where the number is below 0, then its digits.
+-- Assumes nothing.
 use mathlib.Core.Path.{_≡_, refl, sym, ap, _∙_}
 use mathlib.Core.List.{List, [], _∷_}
 use lib.IntN.{natAbs}
@@ -8,11 +10,6 @@ use Rattle.walk.proofs.LineLaws.{signed-below, signed-above, text-then,
 use borrow.Author.Needs.{needs}
 use Rattle.walk.proofs.lines.put_signed.Statement.{statement}
 use Rattle.walk.proofs.lines.put_signed.Tie as tie
-use Rattle.walk.proofs.lines.put_signed.Reads as reads
-use Rattle.walk.proofs.lines.put_signed.Lts as lts
-use Rattle.walk.proofs.lines.distance.Reads as distance-reads
-use Rattle.walk.proofs.lines.put_byte.Reads as put-byte-reads
-use Rattle.walk.proofs.lines.put_decimal.Reads as put-decimal-reads
 
 distance-requires : tie.Need-distance-requires
 distance-requires c κs = search needs

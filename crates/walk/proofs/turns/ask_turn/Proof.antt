@@ -1,3 +1,5 @@
+-- An ask: its table, and its answer's line.
+-- Assumes nothing.
 use Rattle.walk.specs.Lines.{askLine, callLines}
 use Rattle.walk.specs.Walk.{turnOf, linesOf, afterEvent}
 use Rattle.inflight.specs.declared.Asked.{Asked}
@@ -5,10 +7,6 @@ use Rattle.walk.proofs.TurnLaws.{turn-is}
 use borrow.Author.Needs.{needs}
 use Rattle.walk.proofs.turns.ask_turn.Statement.{statement}
 use Rattle.walk.proofs.turns.ask_turn.Tie as tie
-use Rattle.walk.proofs.turns.ask_turn.Reads as reads
-use Rattle.walk.proofs.turns.ask_turn.Lts as lts
-use Rattle.inflight.proofs.ask.Reads as ask-reads
-use Rattle.walk.proofs.turns.put_ask.Reads as put-ask-reads
 
 ask-requires : tie.Need-ask-requires
 ask-requires c κs = search needs

@@ -1,3 +1,5 @@
+-- A cancel: its table, and its answer's line.
+-- Assumes nothing.
 use Rattle.walk.specs.Lines.{cancelLine, callLines}
 use Rattle.walk.specs.Walk.{turnOf, linesOf, afterEvent}
 use Rattle.inflight.specs.declared.Cancelled.{Cancelled}
@@ -5,10 +7,6 @@ use Rattle.walk.proofs.TurnLaws.{turn-is}
 use borrow.Author.Needs.{needs}
 use Rattle.walk.proofs.turns.cancel_turn.Statement.{statement}
 use Rattle.walk.proofs.turns.cancel_turn.Tie as tie
-use Rattle.walk.proofs.turns.cancel_turn.Reads as reads
-use Rattle.walk.proofs.turns.cancel_turn.Lts as lts
-use Rattle.inflight.proofs.cancel.Reads as cancel-reads
-use Rattle.walk.proofs.turns.put_cancel.Reads as put-cancel-reads
 
 cancel-requires : tie.Need-cancel-requires
 cancel-requires c κs = search needs

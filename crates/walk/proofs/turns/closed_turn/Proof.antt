@@ -1,3 +1,5 @@
+-- A closed link: its table, and its answer's lines.
+-- Assumes nothing.
 use mathlib.Core.Path.{_≡_, ap, subst}
 use mathlib.Core.List.{List}
 use Prim.Native.Nat.{_*_, _≤_}
@@ -11,10 +13,6 @@ use Rattle.walk.proofs.TurnLaws.{turn-is, lines-are, closed-count}
 use borrow.Author.Needs.{needs}
 use Rattle.walk.proofs.turns.closed_turn.Statement.{statement}
 use Rattle.walk.proofs.turns.closed_turn.Tie as tie
-use Rattle.walk.proofs.turns.closed_turn.Reads as reads
-use Rattle.walk.proofs.turns.closed_turn.Lts as lts
-use Rattle.inflight.proofs.closed.Reads as closed-reads
-use Rattle.walk.proofs.turns.put_dropped.Reads as put-dropped-reads
 
 slice-aggregate-closed : tie.Need-slice-aggregate-closed
 slice-aggregate-closed c = search needs

@@ -1,3 +1,5 @@
+-- No call: the table stays, and the line is that of 35.
+-- Assumes nothing.
 use mathlib.Core.Path.{refl}
 use Prim.Native.Nat.{ℕ}
 use Rattle.inflight.specs.declared.Table.{Table}
@@ -7,9 +9,6 @@ use Rattle.walk.proofs.TurnLaws.{turn-is}
 use borrow.Author.Needs.{needs}
 use Rattle.walk.proofs.turns.no_turn.Statement.{statement}
 use Rattle.walk.proofs.turns.no_turn.Tie as tie
-use Rattle.walk.proofs.turns.no_turn.Reads as reads
-use Rattle.walk.proofs.turns.no_turn.Lts as lts
-use Rattle.walk.proofs.lines.put_refused.Reads as put-refused-reads
 
 put-refused-requires : tie.Need-put-refused-requires
 put-refused-requires c κs = search needs

@@ -1,3 +1,5 @@
+-- The line of an ask's answer, a case for each variant.
+-- Assumes nothing.
 use mathlib.Core.Path.{_≡_, sym, ap, _∙_}
 use native.Mathlib.Omega.{arith}
 use lib.IntN.{pos}
@@ -9,10 +11,6 @@ use Rattle.walk.proofs.TurnLaws.{lines-are}
 use borrow.Author.Needs.{needs}
 use Rattle.walk.proofs.turns.put_ask.Statement.{statement}
 use Rattle.walk.proofs.turns.put_ask.Tie as tie
-use Rattle.walk.proofs.turns.put_ask.Reads as reads
-use Rattle.walk.proofs.turns.put_ask.Lts as lts
-use Rattle.walk.proofs.lines.put_line.Reads as put-line-reads
-use Rattle.walk.proofs.lines.put_refused.Reads as put-refused-reads
 
 enum-known-answer : tie.Need-enum-known-answer
 enum-known-answer c = search needs

@@ -1,3 +1,5 @@
+-- The lines of a drop's answer: the count, then the dropped requests.
+-- Assumes nothing.
 use mathlib.Core.Path.{_≡_, sym, ap, _∙_, subst}
 use Prim.Native.Nat.{_≤_}
 use native.Mathlib.Omega.{arith}
@@ -12,11 +14,6 @@ use Rattle.walk.proofs.TurnLaws.{lines-are}
 use borrow.Author.Needs.{needs}
 use Rattle.walk.proofs.turns.put_dropped.Statement.{statement}
 use Rattle.walk.proofs.turns.put_dropped.Tie as tie
-use Rattle.walk.proofs.turns.put_dropped.Reads as reads
-use Rattle.walk.proofs.turns.put_dropped.Lts as lts
-use Rattle.walk.proofs.lines.put_drops.Reads as put-drops-reads
-use Rattle.walk.proofs.lines.put_line.Reads as put-line-reads
-use Rattle.walk.proofs.lines.put_refused.Reads as put-refused-reads
 
 enum-known-answer : tie.Need-enum-known-answer
 enum-known-answer c = search needs

@@ -1,3 +1,5 @@
+-- A reply: its table, and its answer's line.
+-- Assumes nothing.
 use Rattle.walk.specs.Lines.{replyLine, callLines}
 use Rattle.walk.specs.Walk.{turnOf, linesOf, afterEvent}
 use Rattle.inflight.specs.declared.Replied.{Replied}
@@ -5,10 +7,6 @@ use Rattle.walk.proofs.TurnLaws.{turn-is}
 use borrow.Author.Needs.{needs}
 use Rattle.walk.proofs.turns.reply_turn.Statement.{statement}
 use Rattle.walk.proofs.turns.reply_turn.Tie as tie
-use Rattle.walk.proofs.turns.reply_turn.Reads as reads
-use Rattle.walk.proofs.turns.reply_turn.Lts as lts
-use Rattle.inflight.proofs.reply.Reads as reply-reads
-use Rattle.walk.proofs.turns.put_reply.Reads as put-reply-reads
 
 reply-requires : tie.Need-reply-requires
 reply-requires c κs = search needs

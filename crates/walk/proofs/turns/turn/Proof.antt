@@ -4,14 +4,6 @@ use Rattle.walk.proofs.TurnLaws.{event-is}
 use borrow.Author.Needs.{needs}
 use Rattle.walk.proofs.turns.turn.Statement.{statement}
 use Rattle.walk.proofs.turns.turn.Tie as tie
-use Rattle.walk.proofs.turns.turn.Reads as reads
-use Rattle.walk.proofs.turns.turn.Lts as lts
-use Rattle.walk.proofs.turns.ask_turn.Reads as ask-turn-reads
-use Rattle.walk.proofs.turns.cancel_turn.Reads as cancel-turn-reads
-use Rattle.walk.proofs.turns.closed_turn.Reads as closed-turn-reads
-use Rattle.walk.proofs.turns.lost_turn.Reads as lost-turn-reads
-use Rattle.walk.proofs.turns.no_turn.Reads as no-turn-reads
-use Rattle.walk.proofs.turns.reply_turn.Reads as reply-turn-reads
 
 enum-known-e : tie.Need-enum-known-e
 enum-known-e c = search needs

@@ -14,13 +14,6 @@ use Rattle.walk.specs.Walk.{linesOf, turnOf, afterEvent, walkOf, Told}
 use Rattle.walk.proofs.WalkLaws.{Came, came-first, none-left, wait-ends, full-ends, stop-ends, goes-on, Lines, lines-known}
 use Rattle.walk.proofs.walking.walk_with.Statement.{statement}
 use Rattle.walk.proofs.walking.walk_with.Tie as tie
-use Rattle.walk.proofs.walking.walk_with.Reads as reads
-use Rattle.walk.proofs.walking.walk_with.Lts as lts
-use Rattle.walk.proofs.events.event.Reads as event-reads
-use Rattle.walk.proofs.events.must_wait.Reads as must-wait-reads
-use Rattle.walk.proofs.events.record_size.Reads as record-size-reads
-use Rattle.walk.proofs.turns.turn.Reads as turn-reads
-use Rattle.wire.proofs.left.Reads as left-reads
 
 abbrev Inv-loop : tie.InvT-loop
 Inv-loop events out₀ last text₀ t₀ at₀ to₀ turns₀ out text t at to turns =
