@@ -71,7 +71,7 @@ fn body(kind: u8, s: &[u8]) -> Event
 }
 
 // What stands at the front of s.
-pub fn event(s: &[u8]) -> Event
+pub(crate) fn event(s: &[u8]) -> Event
     ensures { λ r. ⌜ r ≡ eventOf (now (s .entry)) ⌝ }
 {
     if s.len() == 0 {
@@ -89,7 +89,7 @@ pub fn event(s: &[u8]) -> Event
 }
 
 // The size of a whole record, and 0 where there is none.
-pub fn record_size(e: Event) -> usize
+pub(crate) fn record_size(e: Event) -> usize
     ensures { λ r. ⌜ r ≡ recordSize e ⌝ }
 {
     match e {
@@ -105,7 +105,7 @@ pub fn record_size(e: Event) -> usize
 }
 
 // Whether there is nothing to do until more bytes come.
-pub fn must_wait(e: Event, last: bool) -> bool
+pub(crate) fn must_wait(e: Event, last: bool) -> bool
     ensures { λ r. ⌜ r ≡ waits e last ⌝ }
 {
     match e {

@@ -62,7 +62,7 @@ fn put_signed(out: &mut [u8], at: usize, n: i64) -> usize
 }
 
 // A line of a word and a number. The word has its space.
-pub fn put_line(out: &mut [u8], at: usize, word: &[u8], n: i64) -> usize
+pub(crate) fn put_line(out: &mut [u8], at: usize, word: &[u8], n: i64) -> usize
     requires { ⌜ (at ≤ 65536) × (length (now word) ≤ 8) ⌝ }
     ensures { λ r. ⌜ (r ≡ at + length (line (now (word .entry)) n)) × (now (out .exit) ≡ sets (now (out .entry)) at (line (now (word .entry)) n)) ⌝ }
 {
@@ -74,7 +74,7 @@ pub fn put_line(out: &mut [u8], at: usize, word: &[u8], n: i64) -> usize
 }
 
 // A line of a word and two numbers.
-pub fn put_pair(out: &mut [u8], at: usize, word: &[u8], a: i64, b: i64) -> usize
+pub(crate) fn put_pair(out: &mut [u8], at: usize, word: &[u8], a: i64, b: i64) -> usize
     requires { ⌜ (at ≤ 65536) × (length (now word) ≤ 8) ⌝ }
     ensures { λ r. ⌜ (r ≡ at + length (pairLine (now (word .entry)) a b)) × (now (out .exit) ≡ sets (now (out .entry)) at (pairLine (now (word .entry)) a b)) ⌝ }
 {
@@ -88,7 +88,7 @@ pub fn put_pair(out: &mut [u8], at: usize, word: &[u8], a: i64, b: i64) -> usize
 }
 
 // The line of a refusal.
-pub fn put_refused(out: &mut [u8], no: u8) -> usize
+pub(crate) fn put_refused(out: &mut [u8], no: u8) -> usize
     ensures { λ r. ⌜ (r ≡ length (refusedLine no)) × (now (out .exit) ≡ sets (now (out .entry)) 0 (refusedLine no)) ⌝ }
 {
     put_line(out, 0, b"no ", no as i64)
@@ -114,7 +114,7 @@ fn put_drop(out: &mut [u8], at: usize, ends: &[i64], i: usize) -> usize
 }
 
 // The lines of the first n dropped requests.
-pub fn put_drops(out: &mut [u8], at: usize, ends: &[i64], n: usize) -> usize
+pub(crate) fn put_drops(out: &mut [u8], at: usize, ends: &[i64], n: usize) -> usize
     requires { ⌜ (at ≤ 64) × (n ≤ 64) ⌝ }
     ensures { λ r. ⌜ (r ≡ at + length (dropLines n (now (ends .entry)))) × (now (out .exit) ≡ sets (now (out .entry)) at (dropLines n (now (ends .entry)))) ⌝ }
 {

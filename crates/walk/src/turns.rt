@@ -150,7 +150,7 @@ fn no_turn(t: Table, text: &mut [u8]) -> Turned
 }
 
 // The table after an event, and its lines at the front of text.
-pub fn turn(t: Table, e: Event, text: &mut [u8]) -> Turned
+pub(crate) fn turn(t: Table, e: Event, text: &mut [u8]) -> Turned
     ensures { λ r. ⌜ (r ≡ turnOf t e) × (now (text .exit) ≡ sets (now (text .entry)) 0 (linesOf t e)) ⌝ }
 {
     match e {

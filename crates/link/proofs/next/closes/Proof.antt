@@ -1,0 +1,32 @@
+-- `link::next::closes` meets its contract. Assumes nothing.
+use Rattle.link.specs.Next.{closesOf}
+use borrow.Author.Tests.{eq-eqb, le-leb, lt-leb, ne-eqb}
+use Rattle.link.proofs.next.closes.Statement.{statement}
+use Rattle.link.proofs.next.closes.Tie as tie
+
+returns : tie.Need-returns
+unfolding closesOf
+returns c =
+    simp
+    (eq-eqb _ _ (c .if1 .taken))
+
+returns-2 : tie.Need-returns-2
+unfolding closesOf
+returns-2 c =
+    simp (
+      ne-eqb _ _ (c .before .if1 .left),
+      eq-eqb _ _ (c .if2 .taken),
+    )
+
+returns-3 : tie.Need-returns-3
+unfolding closesOf
+returns-3 c =
+    simp (ne-eqb _ _ (c .before .before .if1 .left), ne-eqb _ _ (c .before .if2 .left), lt-leb _ _ (c .if3 .taken))
+
+returns-4 : tie.Need-returns-4
+unfolding closesOf
+returns-4 c =
+    simp (ne-eqb _ _ (c .before .before .if1 .left), ne-eqb _ _ (c .before .if2 .left), le-leb _ _ (c .if3 .left))
+
+pub closes-spec : {M : Type 1} → statement M
+closes-spec = tie.close (tie.spec returns returns-2 returns-3 returns-4)

@@ -1,0 +1,5 @@
+-- Definitions of crate link: receive.
+pub mod Look
+pub mod KeepAlive
+pub mod Next
+pub mod Receive

@@ -1,0 +1,3 @@
+-- Laws that the proofs of crate link_out cite.
+pub mod BodyLaws
+pub mod ControlLaws

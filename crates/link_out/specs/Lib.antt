@@ -1,0 +1,6 @@
+-- Definitions of crate link_out: what a link sends of itself.
+pub mod Sent
+pub mod Control
+pub mod Nonce
+pub mod Handshake
+pub mod KeepAlive

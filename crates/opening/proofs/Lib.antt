@@ -1,0 +1,2 @@
+-- Laws that the proofs of crate opening cite.
+pub mod ClockLaws

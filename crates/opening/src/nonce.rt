@@ -1,0 +1,65 @@
+// The other side's Nonce.
+use crate::times::near;
+use link_state::Moment;
+use link_state::Settings;
+use refusal::BEYOND_OFFER;
+use refusal::CLOCKS;
+use refusal::ENCRYPTION;
+use refusal::OPENING_SHORT;
+use wire::u8_at;
+ghost use mathlib.Core.Path.{_≡_};
+ghost use Rattle.opening.specs.Nonce.{leastOf, cipherRefused, beyondOf, nonceRefusal};
+
+// Our version.
+const OUR_VERSION: u8 = 2;
+
+// How long a Nonce's body of this version is at least.
+fn least(version: u8) -> usize
+    ensures { λ r. ⌜ r ≡ leastOf version ⌝ }
+{
+    if version < 2 { 28 } else { 60 }
+}
+
+// Whether the encryption that a Nonce names is refused.
+fn cipher_refused(set: Settings, b: &[u8]) -> bool
+    ensures { λ r. ⌜ r ≡ cipherRefused set (now (b .entry)) ⌝ }
+{
+    let encryption = u8_at(b, 4);
+    if set.server {
+        encryption == 1
+    } else {
+        encryption != 0
+    }
+}
+
+// Whether a version is above a client's own.
+fn beyond(set: Settings, version: u8) -> bool
+    ensures { λ r. ⌜ r ≡ beyondOf set version ⌝ }
+{
+    if set.server {
+        false
+    } else {
+        OUR_VERSION < version
+    }
+}
+
+// A refusal's number, or 0.
+pub fn nonce_refusal(set: Settings, b: &[u8], moment: Moment) -> u8
+    ensures { λ r. ⌜ r ≡ nonceRefusal set (now (b .entry)) moment ⌝ }
+{
+    let version = u8_at(b, 5);
+    if b.len() < least(version) {
+        return OPENING_SHORT;
+    }
+    if !near(b, moment) {
+        return CLOCKS;
+    }
+    if cipher_refused(set, b) {
+        return ENCRYPTION;
+    }
+    if beyond(set, version) {
+        BEYOND_OFFER
+    } else {
+        0
+    }
+}

@@ -1,0 +1,2 @@
+-- Laws that the proofs of crate packet cite.
+pub mod HeadLaws

@@ -1,0 +1,34 @@
+// Framing: what stands at the front of lent bytes, from a packet's length to its checksum, and where its body is.
+//
+// Nothing here reads a body or changes a link, and no byte is copied: an answer names the body by its place, and `body`
+// hands it back. The type that matters is `Arrival`. Writing packets is in the crate `packet_out`, and what a link makes
+// of a packet in the crate `link`.
+mod framing;
+mod head;
+mod slice;
+mod sum;
+mod types;
+
+pub use framing::frame;
+pub use head::allowed;
+pub use slice::body;
+pub use sum::checksum_of;
+pub use types::HANDSHAKE;
+pub use types::NONCE;
+pub use types::PING;
+pub use types::PONG;
+
+// What stands at the front of the bytes.
+pub enum Arrival {
+    // so many bytes more are needed
+    Incomplete(usize),
+    // a packet of this type, which takes so many bytes; its body is the len bytes from at on
+    Packet {
+        kind: u32,
+        consumed: usize,
+        at: usize,
+        len: usize,
+    },
+    // a refusal's number
+    Refused(u8),
+}

@@ -1,0 +1,6 @@
+-- Theorems on two links.
+pub mod SumLaws
+pub mod RoundTrip
+pub mod SentReceived
+pub mod KeepAlive
+pub mod Opening

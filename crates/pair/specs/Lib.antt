@@ -1,0 +1,3 @@
+-- What the theorems on two links speak of.
+pub mod Awaits
+pub mod Opens
