@@ -1,0 +1,2 @@
+-- Definitions of crate relay_c: the C interface.
+pub mod MessageFields
