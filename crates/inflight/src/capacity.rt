@@ -9,7 +9,7 @@ ghost use Rattle.inflight.specs.Matching.{sumBelow};
 ghost use Rattle.inflight.specs.Tables.{inFlight, Loaded};
 
 // The loads of a table, counted in one pass over its requests.
-pub fn loads(t: Table) -> Loads
+pub(crate) fn loads(t: Table) -> Loads
     ensures { λ r. ⌜ Loaded (inFlight t) r ⌝ }
 {
     let n = size(t);
@@ -37,7 +37,7 @@ fn with_reserve(load: u8) -> usize
 }
 
 // The eight loads, each counted as at least 4, added up.
-pub fn capacity_taken(l: Loads) -> usize
+pub(crate) fn capacity_taken(l: Loads) -> usize
     ensures { λ r. ⌜ r ≡ sumBelow 8 (λ q. max 4 (getD (l .of) q 0)) ⌝ }
 {
     let mut sum: usize = 0;

@@ -17,12 +17,15 @@ pub use drops::closed;
 pub use drops::lost;
 
 // A front number: it belongs to a front link.
+#[repr(C)]
 pub struct FrontNumber(pub i64);
 
 // A publisher number: it belongs to a publisher's link.
+#[repr(C)]
 pub struct PublisherNumber(pub i64);
 
 // A request in flight (document 01: a ticket, an entry of the book).
+#[repr(C)]
 pub struct Request {
     link: u8,
     front: FrontNumber,
@@ -31,6 +34,7 @@ pub struct Request {
 }
 
 // The table: its first `count` requests are in flight, oldest accepted first; `next` is the number after each publisher's last one.
+#[repr(C)]
 pub struct Table {
     requests: [Request; 64],
     count: usize,

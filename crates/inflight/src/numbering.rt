@@ -11,7 +11,7 @@ ghost use Rattle.inflight.specs.Matching.{nextFree};
 ghost use Rattle.inflight.specs.Tables.{inFlight};
 
 // The number after n: 1 after the largest.
-pub fn step(n: PublisherNumber) -> PublisherNumber
+pub(crate) fn step(n: PublisherNumber) -> PublisherNumber
     ensures { λ r. ⌜ r ≡ after n ⌝ }
 {
     if n.0 == 9223372036854775807 {
@@ -21,7 +21,7 @@ pub fn step(n: PublisherNumber) -> PublisherNumber
 }
 
 // From n on, the first number that is not in flight with a publisher.
-pub fn free_number(t: Table, publisher: u8, n: PublisherNumber) -> PublisherNumber
+pub(crate) fn free_number(t: Table, publisher: u8, n: PublisherNumber) -> PublisherNumber
     ensures { λ r. ⌜ r ≡ nextFree (length (inFlight t)) (inFlight t) publisher n ⌝ }
 {
     let mut left = size(t);

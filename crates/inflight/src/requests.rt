@@ -13,20 +13,20 @@ ghost use Rattle.inflight.specs.Matching.{matches, matching, oldest};
 ghost use Rattle.inflight.specs.Model.{remove};
 ghost use Rattle.inflight.specs.Tables.{inFlight, modelOf, store, Sized};
 
-pub fn same_front(a: FrontNumber, b: FrontNumber) -> bool
+pub(crate) fn same_front(a: FrontNumber, b: FrontNumber) -> bool
     ensures { λ r. ⌜ r ≡ same (a .0) (b .0) ⌝ }
 {
     a.0 == b.0
 }
 
-pub fn same_number(a: PublisherNumber, b: PublisherNumber) -> bool
+pub(crate) fn same_number(a: PublisherNumber, b: PublisherNumber) -> bool
     ensures { λ r. ⌜ r ≡ same (a .0) (b .0) ⌝ }
 {
     a.0 == b.0
 }
 
 // Whether a key matches a request.
-pub fn key_matches(k: Key, e: Request) -> bool
+pub(crate) fn key_matches(k: Key, e: Request) -> bool
     ensures { λ r. ⌜ r ≡ matches k e ⌝ }
 {
     match k {
@@ -44,14 +44,14 @@ pub fn key_matches(k: Key, e: Request) -> bool
 }
 
 // How many requests are in flight in a table.
-pub fn size(t: Table) -> usize
+pub(crate) fn size(t: Table) -> usize
     ensures { λ r. ⌜ Sized t r ⌝ }
 {
     if t.count < 64 { t.count } else { 64 }
 }
 
 // How many requests a key matches.
-pub fn count_matching(t: Table, k: Key) -> usize
+pub(crate) fn count_matching(t: Table, k: Key) -> usize
     ensures { λ r. ⌜ (r ≡ length (matching k (inFlight t))) × (r ≤ 64) ⌝ }
 {
     let n = size(t);
@@ -68,7 +68,7 @@ pub fn count_matching(t: Table, k: Key) -> usize
 }
 
 // The oldest request that a key matches.
-pub fn first_matching(t: Table, k: Key) -> Found
+pub(crate) fn first_matching(t: Table, k: Key) -> Found
     ensures { λ r. ⌜ r ≡ oldest (matching k (inFlight t)) ⌝ }
 {
     let n = size(t);
@@ -84,7 +84,7 @@ pub fn first_matching(t: Table, k: Key) -> Found
 }
 
 // The table without the requests that a key matches.
-pub fn remove_matching(t: Table, k: Key) -> Table
+pub(crate) fn remove_matching(t: Table, k: Key) -> Table
     ensures { λ r. ⌜ r ≡ store t (remove (modelOf t) k) ⌝ }
 {
     let n = size(t);

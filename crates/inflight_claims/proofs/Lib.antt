@@ -8,4 +8,3 @@ pub mod Membership
 pub mod History
 pub mod Numbering
 pub mod Delivery
-pub mod StarredLoads

@@ -1,5 +1,4 @@
 -- The statements.
 pub mod ListClaim
 pub mod Delivery
-pub mod StarredLoads
 pub mod EveryTable

@@ -1,3 +1,2 @@
 -- Laws that the proofs of crate link_out cite.
 pub mod BodyLaws
-pub mod ControlLaws

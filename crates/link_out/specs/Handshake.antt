@@ -6,8 +6,8 @@ use mathlib.Core.List.{List, _++_}
 use Rattle.wire.specs.Bytes.{bytes}
 use Rattle.wire.specs.Choice.{pick}
 use Rattle.link_state.specs.declared.Link.{Link}
-use Rattle.link_out.specs.Control.{controlStep, controlBuffer}
-use Rattle.link_out.specs.declared.Step.{Step}
+use Rattle.send_rules.specs.Control.{controlStep, controlBuffer}
+use Rattle.send_rules.specs.declared.Step.{Step}
 use Rattle.link_out.specs.declared.NetPid.{NetPid}
 
 -- "Flag 0x800 offers CRC-32C; the server sets it if the client did and its own setting allows", which is kept as agreed;

@@ -4,8 +4,8 @@ use mathlib.Core.Bool.{not}
 use mathlib.Core.List.{List}
 use Rattle.wire.specs.Bytes.{bytes}
 use Rattle.link_state.specs.declared.Link.{Link}
-use Rattle.link_out.specs.Control.{controlStep, controlBuffer}
-use Rattle.link_out.specs.declared.Step.{Step}
+use Rattle.send_rules.specs.Control.{controlStep, controlBuffer}
+use Rattle.send_rules.specs.declared.Step.{Step}
 
 -- a Ping: "our second Ping" before the first is answered is 21
 unfoldable pub pingStep : Link → ℕ → ℕ → Step

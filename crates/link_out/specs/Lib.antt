@@ -1,6 +1,4 @@
 -- Definitions of crate link_out: what a link sends of itself.
-pub mod Sent
-pub mod Control
 pub mod Nonce
 pub mod Handshake
 pub mod KeepAlive

@@ -9,8 +9,8 @@ use Rattle.wire.specs.Bytes.{bytes}
 use Rattle.wire.specs.Choice.{pick}
 use Rattle.link_state.specs.declared.Link.{Link}
 use Rattle.link_state.specs.declared.Moment.{Moment}
-use Rattle.link_out.specs.Control.{controlStep, controlBuffer}
-use Rattle.link_out.specs.declared.Step.{Step}
+use Rattle.send_rules.specs.Control.{controlStep, controlBuffer}
+use Rattle.send_rules.specs.declared.Step.{Step}
 
 -- "Our version is 2; a server writes the smaller of the client's and 2"
 unfoldable pub versionOf : Link → ℕ

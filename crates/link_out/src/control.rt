@@ -1,12 +1,12 @@
 // Our Ping and our Pong: 8 bytes, an ID.
-use crate::Step;
-use crate::allow::control_answer;
-use crate::allow::sent;
 use link_state::Link;
 use packet::PING;
 use packet::PONG;
 use packet_out::Sent;
 use packet_out::seal;
+use send_rules::Step;
+use send_rules::control_answer;
+use send_rules::sent;
 use store::put_u64;
 ghost use mathlib.Core.Path.{_≡_};
 ghost use lib.ListN.{length};

@@ -1,12 +1,12 @@
 // Our Handshake: 28 bytes.
 use crate::NetPid;
-use crate::Step;
-use crate::allow::control_answer;
-use crate::allow::sent;
 use link_state::Link;
 use packet::HANDSHAKE;
 use packet_out::Sent;
 use packet_out::seal;
+use send_rules::Step;
+use send_rules::control_answer;
+use send_rules::sent;
 use store::put_u16;
 use store::put_u32;
 ghost use mathlib.Core.Path.{_≡_};

@@ -2,8 +2,7 @@
 //
 // Each step takes a link by value and a lent buffer, and hands the link back beside the answer: the packet's size, with
 // the packet at the buffer's front, or a refusal's number, with the buffer as it was. A send never closes a link. The
-// caller gives time and random bytes. The types that matter are `Step` and `NetPid`.
-mod allow;
+// caller gives time and random bytes. The types that matter are `Step`, of the crate `send_rules`, and `NetPid`.
 mod control;
 mod handshake;
 mod nonce;
@@ -11,17 +10,11 @@ mod nonce;
 pub use control::ping_step;
 pub use control::pong_step;
 pub use handshake::handshake_step;
-use link_state::Link;
 pub use nonce::nonce_step;
-use packet_out::Sent;
-
-// The link after a send call, and the answer.
-pub struct Step {
-    pub link: Link,
-    pub answer: Sent,
-}
+pub use send_rules::Step;
 
 // A process as a Handshake names it.
+#[repr(C)]
 pub struct NetPid {
     pub ip: u32,
     pub port: u16,

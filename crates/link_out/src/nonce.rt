@@ -1,12 +1,12 @@
 // Our Nonce: 60 bytes.
-use crate::Step;
-use crate::allow::control_answer;
-use crate::allow::sent;
 use link_state::Link;
 use link_state::Moment;
 use packet::NONCE;
 use packet_out::Sent;
 use packet_out::seal;
+use send_rules::Step;
+use send_rules::control_answer;
+use send_rules::sent;
 use store::copy;
 use store::put_u8;
 use store::put_u16;

@@ -1,5 +1,4 @@
 -- Laws of crate message_laws: the theorems on messages.
-pub mod Cases
 pub mod InvokeBack
 pub mod MessageBack
 pub mod ResultBack

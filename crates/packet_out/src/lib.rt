@@ -2,7 +2,7 @@
 //
 // One writer, `seal`, closes every packet, whatever its body; a new packet costs its body's writer only. Nothing is stored
 // where the packet does not fit, and bytes past the packet stay. The type that matters is `Sent`. Which packet a link may
-// send is the crate `link_out`.
+// send is the crate `send_rules`.
 mod sealing;
 mod size;
 

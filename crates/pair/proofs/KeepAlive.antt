@@ -1,13 +1,13 @@
 -- A Ping that one link sends is received by the other, and the Pong that answers it by the first. Assumes nothing.
-use borrow.Author.Tests.{leb-true, le-ltb, lt-ltb, eq-eqb}
+use borrow.Author.Tests.{le-ltb, eq-eqb}
 use native.Mathlib.Omega.{arith}
-use mathlib.Core.Path.{_≡_, refl, ap, sym, _∙_}
-use mathlib.Core.Bool.{Bool, true, false}
+use mathlib.Core.Path.{_≡_, refl, ap, _∙_}
+use mathlib.Core.Bool.{true, false}
 use mathlib.Core.List.{List, _++_}
 use Prim.Native.Nat.{ℕ, _+_, _≤_, _<_, _^_}
-use lib.ListN.{length, take}
+use lib.ListN.{length}
 use lib.Seq.{take-all}
-use lib.Dec.{leb, ltb, lit<}
+use lib.Dec.{ltb, lit<}
 use Rattle.wire.specs.Bytes.{le, part, bytes}
 use Rattle.wire.proofs.ByteLaws.{length-bytes, le-bytes}
 use Rattle.link_state.specs.declared.Link.{Link}

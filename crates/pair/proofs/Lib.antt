@@ -2,5 +2,6 @@
 pub mod SumLaws
 pub mod RoundTrip
 pub mod SentReceived
+pub mod StepAlike
 pub mod KeepAlive
 pub mod Opening

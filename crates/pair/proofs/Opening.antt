@@ -1,13 +1,13 @@
 -- Two links open against each other. Assumes nothing.
 use borrow.Author.Tests.{le-ltb, le-leb}
 use native.Mathlib.Omega.{arith}
-use mathlib.Core.Path.{_≡_, refl, ap, sym, _∙_}
+use mathlib.Core.Path.{_≡_, refl, ap, _∙_}
 use mathlib.Core.Bool.{Bool, true, false, not, _&&_, cond}
-use mathlib.Core.List.{List, [], _∷_, _++_, append-assoc, append-nil}
+use mathlib.Core.List.{List, [], _∷_, _++_, append-assoc}
 use Prim.Native.Nat.{ℕ, zero, suc, _+_, _-_, _/_, _%_, _≤_, _<_, _^_}
 use lib.IntN.{pos, negsuc}
-use lib.ListN.{length, replicate, getD, length-append}
-use lib.Dec.{ltb, leb, eqb, lit<}
+use lib.ListN.{length, replicate, length-append}
+use lib.Dec.{ltb, eqb, lit<}
 use Rattle.wire.specs.Bytes.{le, part, bytes}
 use Rattle.wire.specs.Choice.{pick}
 use Rattle.wire.proofs.ByteLaws.{Small, length-bytes, le-bytes, part-mid}
@@ -18,24 +18,27 @@ use Rattle.link_state.specs.SetUp.{freshOf}
 use Rattle.link_state.specs.Turn.{maySend, stageAfter}
 use Rattle.packet.specs.Sum.{castagnoliOf}
 use Rattle.packet.specs.Head.{lengthRefusal, allowedOf}
-use Rattle.packet_out.specs.Packet.{packetOf}
+use Rattle.packet.specs.declared.Arrival.the-variants.{Packet}
+use Rattle.packet_out.specs.Size.{sizeOf, fitsOf}
+use Rattle.packet_out.specs.declared.Sent.the-variants.{Written}
 use Rattle.opening.specs.Clock.{nonceClock, clockOf, within30, isNear, nearOf}
 use Rattle.opening.specs.Nonce.{leastOf, cipherRefused, beyondOf, nonceRefusal}
 use Rattle.opening.specs.Handshake.{flagOf, handshakeRefusal}
 use Rattle.link.specs.Look.{turnRefusal}
 use Rattle.link.specs.KeepAlive.{awaitsAfter, owesAfter, owedAfter}
 use Rattle.link.specs.Next.{agreedAfter, versionAfter, afterOf}
-use Rattle.link.specs.Receive.{bodyRefusal, receiveOf}
-use Rattle.link.specs.declared.Received.{Received}
-use Rattle.link_out.specs.Nonce.{versionOf, nonceHead, pointOf, nonceBody}
-use Rattle.link_out.specs.Handshake.{flagsOf, pidBytes, handshakeBody}
-use Rattle.link_out.specs.Sent.{awaitsSent, awaitedSent, owesSent, sentOf}
+use Rattle.link.specs.Receive.{bodyRefusal, gives, receiveOf}
+use Rattle.send_rules.specs.Control.{sendRefusal, controlAnswer, stepBy, controlStep, controlBuffer}
+use Rattle.link_out.specs.Nonce.{versionOf, nonceHead, pointOf, nonceBody, nonceStep, nonceBuffer}
+use Rattle.link_out.specs.Handshake.{flagsOf, pidBytes, handshakeBody, handshakeStep, handshakeBuffer}
+use Rattle.send_rules.specs.Sent.{awaitsSent, awaitedSent, owesSent, sentOf}
 use Rattle.link_out.specs.declared.NetPid.{NetPid}
 use Rattle.link_out.proofs.BodyLaws.{length-nonce, length-handshake}
 use Rattle.pair.specs.Awaits.{Awaits}
-use Rattle.pair.specs.Opens.{during, nonceFrom, handshakeFrom, afterSend, afterReceive, Both, opens}
+use Rattle.pair.specs.Opens.{during, Caller, Able, Opened, opens}
 use Rattle.pair.proofs.SumLaws.{small-append, small-bytes}
-use Rattle.pair.proofs.RoundTrip.{field, received}
+use Rattle.pair.proofs.RoundTrip.{field}
+use Rattle.pair.proofs.SentReceived.{sent-received}
 
 -- ---- clocks that are at most 30 apart are near
 
@@ -50,13 +53,13 @@ near a (suc k) h g = by-test (ltb a (suc k))
 
 -- ---- the bodies, as the peer reads them
 
-small-zeros : (n : ℕ) → Small (replicate n 0)
+pub small-zeros : (n : ℕ) → Small (replicate n 0)
 small-zeros zero i = lit< tt
 small-zeros (suc n) zero = lit< tt
 small-zeros (suc n) (suc i) = small-zeros n i
 
 module _ (version time : ℕ) (random : List ℕ) where
-  small-nonce : Small random → Small (nonceBody version time random)
+  pub small-nonce : Small random → Small (nonceBody version time random)
   unfolding nonceBody nonceHead pointOf
   small-nonce g =
       let t : List ℕ = bytes 2 0 ++ bytes 4 time in
@@ -160,16 +163,25 @@ module _ (flag : Bool) (s p : NetPid) where
 
 -- ---- the four packets
 
--- a packet of the opening that the peer waits for is received
-one : (k l : Link) (kind : ℕ) (body : List ℕ) (m : Moment) → Awaits k l → lengthRefusal k (length body + 16) ≡ 0 → allowedOf k kind ≡ true → l .sends < 2 ^ 32
-    → length body + 16 < 2 ^ 32 → kind < 2 ^ 32 → Small body → bodyRefusal k kind body m ≡ 0 → afterReceive k l kind body m ≡ afterOf k kind body m
-one k l kind body m a len may n s kd g ok =
-    ap (λ (p : List ℕ). receiveOf k p m .link) (sym (append-nil (packetOf l kind body)))
-    ∙ ap (λ (r : Received). r .link) (received l kind body [] k a len may n s kd g m ok)
+-- a packet of the opening, with a body of n bytes and room for it
+module _ (l k : Link) (kind : ℕ) (body b : List ℕ) (n : ℕ) (is : length body ≡ n) (short : n < 1000) (room : n + 16 ≤ length b) (may-send : sendRefusal l kind false ≡ 0) where
+  -- the send call is accepted
+  written : controlAnswer l kind false (length body) (length b) ≡ Written (n + 16)
+  unfolding controlAnswer fitsOf sizeOf
+  written = simp (is, may-send, le-ltb 16777199 n (omega arith), le-ltb (length b) (n + 16) room)
 
-module _ (oc os : Bool) (mc ms : Moment) (rc rs : List ℕ) (pc ps : NetPid) (tc : mc .time < 2 ^ 32) (ts : ms .time < 2 ^ 32) (rc16 : length rc ≡ 16)
-    (rs16 : length rs ≡ 16) (rc-small : Small rc) (rs-small : Small rs) (after-s : mc .time ≤ ms .time + 30)
-    (after-c : ms .time ≤ mc .time + 30) where
+  sends : controlStep l kind false body 0 (length b) ≡ record { link = sentOf l kind 0; answer = Written (n + 16) }
+  unfolding controlStep
+  sends = ap (stepBy l kind 0) written
+
+  -- and the peer that waits for it receives it
+  receives : (m : Moment) → Awaits k l → lengthRefusal k (n + 16) ≡ 0 → allowedOf k kind ≡ true → l .sends < 2 ^ 32 → kind < 2 ^ 32 → Small body → bodyRefusal k kind body m ≡ 0
+      → receiveOf k (controlBuffer l kind false body b) m ≡ gives (afterOf k kind body m) (Packet kind (n + 16) 12 n)
+  receives m a len may number kind-fits g ok =
+      sent-received l kind false body b k (n + 16) written a (ap (λ (x : ℕ). lengthRefusal k (x + 16)) is ∙ len) may number (omega arith) kind-fits g m ok
+      ∙ ap (λ (x : ℕ). gives (afterOf k kind body m) (Packet kind (x + 16) 12 x)) is
+
+module _ (oc os : Bool) (c s : Caller) (b1 b2 b3 b4 : List ℕ) (g : Able c s b1 b2 b3 b4) where
   abbrev C : Settings
   C = record { server = false; allows = oc }
 
@@ -179,54 +191,84 @@ module _ (oc os : Bool) (mc ms : Moment) (rc rs : List ℕ) (pc ps : NetPid) (tc
   abbrev c0 : Link
   c0 = during C false 0 0 4294967294 4294967294
 
+  abbrev s0 : Link
+  s0 = during S false 0 0 4294967294 4294967294
+
+  abbrev c1 : Link
+  c1 = during C false 0 1 4294967295 4294967294
+
   abbrev s1 : Link
   s1 = during S false 2 1 4294967294 4294967295
+
+  abbrev s2 : Link
+  s2 = during S false 2 2 4294967295 4294967295
 
   abbrev c2 : Link
   c2 = during C false 2 2 4294967295 4294967295
 
+  abbrev c3 : Link
+  c3 = during C false 2 3 0 4294967295
+
   abbrev s3 : Link
   s3 = during S (os && oc) 2 3 4294967295 0
 
+  abbrev nonceC : List ℕ
+  nonceC = nonceBody 2 (c .moment .time) (c .random)
+
+  abbrev nonceS : List ℕ
+  nonceS = nonceBody 2 (s .moment .time) (s .random)
+
   -- the client's Nonce
-  step1 : afterReceive (during S false 0 0 4294967294 4294967294) c0 0x7acb87aa (nonceFrom c0 mc rc) ms ≡ s1
-  unfolding castagnoliOf turnRefusal maySend lengthRefusal allowedOf bodyRefusal afterOf agreedAfter versionAfter stageAfter awaitsAfter owesAfter owedAfter versionOf
-  step1 =
-      one (during S false 0 0 4294967294 4294967294) c0 0x7acb87aa (nonceBody 2 (mc .time) rc) ms
-      (record { number = refl; checksum = refl; turn = refl }) (rw (length-nonce 2 (mc .time) rc rc16)) refl (lit< tt)
-      (rw (length-nonce 2 (mc .time) rc rc16) (lit< tt)) (lit< tt) (small-nonce 2 (mc .time) rc rc-small)
-      (nonce-passes 2 (mc .time) rc S ms rc16 (omega arith) tc (near (mc .time) (ms .time) after-s after-c))
-      ∙ rw (nonce-version 2 (mc .time) rc (lit< tt))
+  sent1 : nonceStep c0 (c .random) (c .moment) (length b1) ≡ record { link = c1; answer = Written 76 }
+  unfolding nonceStep versionOf sendRefusal maySend allowedOf sentOf stageAfter awaitsSent awaitedSent owesSent
+  sent1 = sends c0 s0 0x7acb87aa nonceC b1 60 (length-nonce 2 _ (c .random) (g .client-random)) (lit< tt) (g .room1) refl
+
+  got1 : receiveOf s0 (nonceBuffer c0 (c .random) (c .moment) b1) (s .moment) ≡ gives s1 (Packet 0x7acb87aa 76 12 60)
+  unfolding nonceBuffer castagnoliOf turnRefusal sendRefusal maySend lengthRefusal allowedOf bodyRefusal afterOf agreedAfter versionAfter stageAfter awaitsAfter owesAfter owedAfter versionOf
+  got1 =
+      receives c0 s0 0x7acb87aa nonceC b1 60 (length-nonce 2 _ (c .random) (g .client-random)) (lit< tt) (g .room1) refl (s .moment)
+      (record { number = refl; checksum = refl; turn = refl }) refl refl (lit< tt) (lit< tt) (small-nonce 2 (c .moment .time) (c .random) (g .client-bytes))
+      (nonce-passes 2 (c .moment .time) (c .random) S (s .moment) (g .client-random) (omega arith) (g .client-clock) (near (c .moment .time) (s .moment .time) (g .not-ahead) (g .not-behind)))
+      ∙ rw (nonce-version 2 (c .moment .time) (c .random) (lit< tt))
 
   -- the server's Nonce
-  step2 : afterReceive (during C false 0 1 4294967295 4294967294) s1 0x7acb87aa (nonceFrom s1 ms rs) mc ≡ c2
-  unfolding castagnoliOf turnRefusal maySend lengthRefusal allowedOf bodyRefusal afterOf agreedAfter versionAfter stageAfter awaitsAfter owesAfter owedAfter versionOf
-  step2 =
-      one (during C false 0 1 4294967295 4294967294) s1 0x7acb87aa (nonceBody 2 (ms .time) rs) mc
-      (record { number = refl; checksum = refl; turn = refl }) (rw (length-nonce 2 (ms .time) rs rs16)) refl (lit< tt)
-      (rw (length-nonce 2 (ms .time) rs rs16) (lit< tt)) (lit< tt) (small-nonce 2 (ms .time) rs rs-small)
-      (nonce-passes 2 (ms .time) rs C mc rs16 (omega arith) ts (near (ms .time) (mc .time) after-c after-s))
-      ∙ rw (nonce-version 2 (ms .time) rs (lit< tt))
+  sent2 : nonceStep s1 (s .random) (s .moment) (length b2) ≡ record { link = s2; answer = Written 76 }
+  unfolding nonceStep versionOf sendRefusal maySend allowedOf sentOf stageAfter awaitsSent awaitedSent owesSent
+  sent2 = sends s1 c1 0x7acb87aa nonceS b2 60 (length-nonce 2 _ (s .random) (g .server-random)) (lit< tt) (g .room2) refl
+
+  got2 : receiveOf c1 (nonceBuffer s1 (s .random) (s .moment) b2) (c .moment) ≡ gives c2 (Packet 0x7acb87aa 76 12 60)
+  unfolding nonceBuffer castagnoliOf turnRefusal sendRefusal maySend lengthRefusal allowedOf bodyRefusal afterOf agreedAfter versionAfter stageAfter awaitsAfter owesAfter owedAfter versionOf
+  got2 =
+      receives s1 c1 0x7acb87aa nonceS b2 60 (length-nonce 2 _ (s .random) (g .server-random)) (lit< tt) (g .room2) refl (c .moment)
+      (record { number = refl; checksum = refl; turn = refl }) refl refl (lit< tt) (lit< tt) (small-nonce 2 (s .moment .time) (s .random) (g .server-bytes))
+      (nonce-passes 2 (s .moment .time) (s .random) C (c .moment) (g .server-random) (omega arith) (g .server-clock) (near (s .moment .time) (c .moment .time) (g .not-behind) (g .not-ahead)))
+      ∙ rw (nonce-version 2 (s .moment .time) (s .random) (lit< tt))
 
   -- the client's Handshake
-  step3 : afterReceive (during S false 2 2 4294967295 4294967295) c2 0x7682eef5 (handshakeFrom c2 pc ps) ms ≡ s3
-  unfolding castagnoliOf turnRefusal maySend lengthRefusal allowedOf bodyRefusal afterOf agreedAfter versionAfter stageAfter awaitsAfter owesAfter owedAfter flagsOf
-  step3 =
-      one (during S false 2 2 4294967295 4294967295) c2 0x7682eef5 (handshakeBody (pick oc 0x800 0) pc ps) ms
-      (record { number = refl; checksum = refl; turn = refl }) (rw (length-handshake (pick oc 0x800 0) pc ps)) refl (lit< tt)
-      (rw (length-handshake (pick oc 0x800 0) pc ps) (lit< tt)) (lit< tt) (small-hand oc pc ps)
-      (hand-passes oc pc ps S refl)
-      ∙ rw (hand-flag oc pc ps)
+  sent3 : handshakeStep c2 (c .pid) (s .pid) (length b3) ≡ record { link = c3; answer = Written 44 }
+  unfolding handshakeStep flagsOf sendRefusal maySend allowedOf sentOf stageAfter awaitsSent awaitedSent owesSent
+  sent3 = sends c2 s2 0x7682eef5 (hand oc (c .pid) (s .pid)) b3 28 (length-handshake _ (c .pid) (s .pid)) (lit< tt) (g .room3) refl
+
+  got3 : receiveOf s2 (handshakeBuffer c2 (c .pid) (s .pid) b3) (s .moment) ≡ gives s3 (Packet 0x7682eef5 44 12 28)
+  unfolding handshakeBuffer castagnoliOf turnRefusal sendRefusal maySend lengthRefusal allowedOf bodyRefusal afterOf agreedAfter versionAfter stageAfter awaitsAfter owesAfter owedAfter flagsOf
+  got3 =
+      receives c2 s2 0x7682eef5 (hand oc (c .pid) (s .pid)) b3 28 (length-handshake _ (c .pid) (s .pid)) (lit< tt) (g .room3) refl (s .moment)
+      (record { number = refl; checksum = refl; turn = refl }) refl refl (lit< tt) (lit< tt) (small-hand oc (c .pid) (s .pid))
+      (hand-passes oc (c .pid) (s .pid) S refl)
+      ∙ rw (hand-flag oc (c .pid) (s .pid))
 
   -- the server's Handshake, still under CRC-32
-  step4 : afterReceive (during C false 2 3 0 4294967295) s3 0x7682eef5 (handshakeFrom s3 ps pc) mc ≡ during C (oc && (os && oc)) 2 4 0 0
-  unfolding castagnoliOf turnRefusal maySend lengthRefusal allowedOf bodyRefusal afterOf agreedAfter versionAfter stageAfter awaitsAfter owesAfter owedAfter flagsOf
-  step4 =
-      one (during C false 2 3 0 4294967295) s3 0x7682eef5 (handshakeBody (pick (os && oc) 0x800 0) ps pc) mc
-      (record { number = refl; checksum = off (os && oc); turn = refl }) (rw (length-handshake (pick (os && oc) 0x800 0) ps pc)) refl (lit< tt)
-      (rw (length-handshake (pick (os && oc) 0x800 0) ps pc) (lit< tt)) (lit< tt) (small-hand (os && oc) ps pc)
-      (hand-passes (os && oc) ps pc C (only oc os))
-      ∙ rw (hand-flag (os && oc) ps pc)
+  sent4 : handshakeStep s3 (s .pid) (c .pid) (length b4) ≡ record { link = during S (os && oc) 2 4 0 0; answer = Written 44 }
+  unfolding handshakeStep flagsOf sendRefusal maySend allowedOf sentOf stageAfter awaitsSent awaitedSent owesSent
+  sent4 = sends s3 c3 0x7682eef5 (hand (os && oc) (s .pid) (c .pid)) b4 28 (length-handshake _ (s .pid) (c .pid)) (lit< tt) (g .room4) refl
+
+  got4 : receiveOf c3 (handshakeBuffer s3 (s .pid) (c .pid) b4) (c .moment) ≡ gives (during C (oc && (os && oc)) 2 4 0 0) (Packet 0x7682eef5 44 12 28)
+  unfolding handshakeBuffer castagnoliOf turnRefusal sendRefusal maySend lengthRefusal allowedOf bodyRefusal afterOf agreedAfter versionAfter stageAfter awaitsAfter owesAfter owedAfter flagsOf
+  got4 =
+      receives s3 c3 0x7682eef5 (hand (os && oc) (s .pid) (c .pid)) b4 28 (length-handshake _ (s .pid) (c .pid)) (lit< tt) (g .room4) refl (c .moment)
+      (record { number = refl; checksum = off (os && oc); turn = refl }) refl refl (lit< tt) (lit< tt) (small-hand (os && oc) (s .pid) (c .pid))
+      (hand-passes (os && oc) (s .pid) (c .pid) C (only oc os))
+      ∙ rw (hand-flag (os && oc) (s .pid) (c .pid))
     where
       off : (b : Bool) → false ≡ (b && false)
       off true = refl
@@ -248,8 +290,33 @@ module _ (oc os : Bool) (mc ms : Moment) (rc rs : List ℕ) (pc ps : NetPid) (tc
   swap false true = refl
   swap false false = refl
 
-  -- THE OPENING: both are open, each waits for the other's next packet, and CRC-32C is agreed exactly if both allow it
-  pub opened : opens (record { client = freshOf C; server = freshOf S }) mc ms rc rs pc ps
-      ≡ record { client = during C (oc && os) 2 4 0 0; server = during S (oc && os) 2 4 0 0 }
-  unfolding opens freshOf sentOf stageAfter awaitsSent awaitedSent owesSent
-  opened = rw (step1, step2, step3, step4, both oc os, swap oc os)
+  -- the exchange of two fresh links
+  abbrev exchange : Opened
+  exchange = opens (freshOf C) (freshOf S) c s b1 b2 b3 b4
+
+  whole : exchange
+      ≡ record {
+        client = during C (oc && os) 2 4 0 0;
+        server = during S (oc && os) 2 4 0 0;
+        sent = Written 76 ∷ Written 76 ∷ Written 44 ∷ Written 44 ∷ [];
+        received = Packet 0x7acb87aa 76 12 60 ∷ Packet 0x7acb87aa 76 12 60 ∷ Packet 0x7682eef5 44 12 28 ∷ Packet 0x7682eef5 44 12 28 ∷ [];
+      }
+  unfolding opens freshOf
+  whole = rw (sent1, got1, sent2, got2, sent3, got3, sent4, got4, both oc os, swap oc os)
+
+  -- THE OPENING: both are open, and CRC-32C is agreed exactly if both allow it
+  pub opened : (exchange .client ≡ during C (oc && os) 2 4 0 0) × (exchange .server ≡ during S (oc && os) 2 4 0 0)
+  opened = (ap (λ (o : Opened). o .client) whole, ap (λ (o : Opened). o .server) whole)
+
+  -- each waits for the other's next packet
+  pub each-awaits : Awaits (exchange .client) (exchange .server) × Awaits (exchange .server) (exchange .client)
+  unfolding castagnoliOf turnRefusal maySend
+  each-awaits = rw whole (record { number = refl; checksum = refl; turn = refl }, record { number = refl; checksum = refl; turn = refl })
+
+  -- every send call is accepted
+  pub all-written : exchange .sent ≡ Written 76 ∷ Written 76 ∷ Written 44 ∷ Written 44 ∷ []
+  all-written = ap (λ (o : Opened). o .sent) whole
+
+  -- and every packet is received
+  pub all-received : exchange .received ≡ Packet 0x7acb87aa 76 12 60 ∷ Packet 0x7acb87aa 76 12 60 ∷ Packet 0x7682eef5 44 12 28 ∷ Packet 0x7682eef5 44 12 28 ∷ []
+  all-received = ap (λ (o : Opened). o .received) whole

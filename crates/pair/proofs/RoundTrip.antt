@@ -3,11 +3,11 @@ use borrow.Author.Tests.{le-ltb, le-leb, eq-eqb}
 use native.Mathlib.Omega.{arith}
 use mathlib.Core.Path.{_≡_, refl, ap, sym, _∙_}
 use mathlib.Core.Bool.{Bool, true, false}
-use mathlib.Core.List.{List, [], _∷_, _++_, append-assoc}
+use mathlib.Core.List.{List, [], _++_, append-assoc}
 use Prim.Native.Nat.{ℕ, _+_, _-_, _≤_, _<_, _^_}
-use lib.ListN.{length, take, drop, length-append}
+use lib.ListN.{length, take, length-append}
 use lib.Seq.{take-at}
-use lib.Dec.{ltb, leb, eqb}
+use lib.Dec.{ltb, eqb}
 use Rattle.wire.specs.Bytes.{le, part, within, bytes}
 use Rattle.wire.specs.Choice.{pick}
 use Rattle.wire.proofs.ByteLaws.{Small, length-bytes, le-bytes, part-mid}
@@ -18,13 +18,12 @@ use Rattle.link_state.specs.declared.Moment.{Moment}
 use Rattle.packet.specs.Sum.{castagnoliOf, sumOf}
 use Rattle.packet.specs.Head.{lengthRefusal, allowedOf, headRefusal}
 use Rattle.packet.specs.Frame.{wholeOf, frameOf}
-use Rattle.packet.specs.declared.Arrival.{Arrival}
 use Rattle.packet.specs.declared.Arrival.the-variants.{Packet}
 use Rattle.packet_out.specs.Packet.{headOf, frontOf, packetOf}
 use Rattle.packet_out.proofs.PacketLaws.{length-front, length-packet}
-use Rattle.link.specs.Look.{turnRefusal, lookOf}
+use Rattle.link.specs.Look.{lookOf}
 use Rattle.link.specs.Next.{afterOf}
-use Rattle.link.specs.Receive.{bodyRefusal, gives, receiveOf}
+use Rattle.link.specs.Receive.{bodyRefusal, gives, refuse, receiveOf}
 use Rattle.pair.specs.Awaits.{Awaits}
 use Rattle.pair.proofs.SumLaws.{small-front, sum-lt}
 
@@ -103,7 +102,7 @@ module _ (l : Link) (kind : ℕ) (body rest : List ℕ) where
   long : size ≤ length p
   long = simp length-append (omega (arith, length-packet l kind body))
 
-  reads-body : within p 12 (length body) ≡ body
+  pub reads-body : within p 12 (length body) ≡ body
   reads-body =
       let H : List ℕ = bytes 4 size ++ (bytes 4 (l .sends) ++ bytes 4 kind) in
       let q : p ≡ H ++ (body ++ (bytes 4 (sumOf l F) ++ rest)) = shape ∙ simp append-assoc in
@@ -140,3 +139,8 @@ module _ (l : Link) (kind : ℕ) (body rest : List ℕ) (k : Link) (a : Awaits k
       → receiveOf k (packetOf l kind body ++ rest) m ≡ gives (afterOf k kind body m) (Packet kind (length body + 16) 12 (length body))
   unfolding receiveOf
   received m ok = rw (looked, reads-body l kind body rest, ok)
+
+  -- a body that the link refuses
+  pub body-refused : (m : Moment) (r : ℕ) → bodyRefusal k kind body m ≡ r → eqb r 0 ≡ false → receiveOf k (packetOf l kind body ++ rest) m ≡ refuse k r
+  unfolding receiveOf
+  body-refused m r bad some = rw (looked, reads-body l kind body rest, bad, some)

@@ -1,8 +1,8 @@
 -- What a send call leaves in the buffer is received. Assumes nothing.
 use native.Mathlib.Omega.{arith}
-use mathlib.Core.Path.{_≡_, refl, ap, sym, _∙_}
+use mathlib.Core.Path.{_≡_, refl, ap, _∙_}
 use mathlib.Core.Bool.{Bool, true}
-use mathlib.Core.List.{List, _++_}
+use mathlib.Core.List.{List}
 use Prim.Native.Nat.{ℕ, _+_, _<_, _^_}
 use lib.ListN.{length, drop}
 use Rattle.wire.proofs.ByteLaws.{Small}
@@ -15,8 +15,8 @@ use Rattle.packet_out.specs.declared.Sent.the-variants.{Written}
 use Rattle.packet_out.proofs.PacketLaws.{length-packet, front-stored}
 use Rattle.link.specs.Next.{afterOf}
 use Rattle.link.specs.Receive.{bodyRefusal, gives, receiveOf}
-use Rattle.link_out.specs.Control.{controlAnswer, bufferBy, controlBuffer}
-use Rattle.link_out.proofs.ControlLaws.{fits}
+use Rattle.send_rules.specs.Control.{controlAnswer, bufferBy, controlBuffer}
+use Rattle.send_rules.proofs.ControlLaws.{fits}
 use Rattle.pair.specs.Awaits.{Awaits}
 use Rattle.pair.proofs.RoundTrip.{received}
 

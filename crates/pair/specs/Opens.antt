@@ -1,16 +1,19 @@
--- Two links that open against each other: each packet of the opening is written by one and received by the other, with
--- nothing lost between them (document 01, "Opening"). Assumes nothing.
-use Prim.Native.Nat.{ℕ}
+-- Two links that open against each other, with nothing lost between them (document 01, "Opening"). Each packet is a send
+-- call of one link on a buffer of its own, then a receive call of the other on that whole buffer: whatever the call left
+-- in it, and whatever stands behind the packet. Assumes nothing.
+use Prim.Native.Nat.{ℕ, _+_, _≤_, _<_, _^_}
+use mathlib.Core.Path.{_≡_}
 use mathlib.Core.Bool.{Bool, false}
-use mathlib.Core.List.{List, []}
+use mathlib.Core.List.{List, [], _∷_}
+use lib.ListN.{length, getD}
 use Rattle.link_state.specs.declared.Link.{Link}
 use Rattle.link_state.specs.declared.Settings.{Settings}
 use Rattle.link_state.specs.declared.Moment.{Moment}
-use Rattle.packet_out.specs.Packet.{packetOf}
+use Rattle.packet.specs.declared.Arrival.{Arrival}
+use Rattle.packet_out.specs.declared.Sent.{Sent}
 use Rattle.link.specs.Receive.{receiveOf}
-use Rattle.link_out.specs.Nonce.{versionOf, nonceBody}
-use Rattle.link_out.specs.Handshake.{flagsOf, handshakeBody}
-use Rattle.link_out.specs.Sent.{sentOf}
+use Rattle.link_out.specs.Nonce.{nonceStep, nonceBuffer}
+use Rattle.link_out.specs.Handshake.{handshakeStep, handshakeBuffer}
 use Rattle.link_out.specs.declared.NetPid.{NetPid}
 
 -- a link somewhere in its opening, with no Ping
@@ -30,38 +33,48 @@ during set crc version stage sends gets =
       owed = 0;
     }
 
--- the body of the Nonce that a link writes at a time
-abbrev pub nonceFrom : Link → Moment → List ℕ → List ℕ
-nonceFrom l m random = nonceBody (versionOf l) (m .time) random
+-- what one side's caller gives: its clock, its random bytes, its NetPID
+pub record Caller : Type 0 where
+  pub moment : Moment
+  pub random : List ℕ
+  pub pid : NetPid
 
--- the body of the Handshake that it writes
-abbrev pub handshakeFrom : Link → NetPid → NetPid → List ℕ
-handshakeFrom l sender peer = handshakeBody (flagsOf l) sender peer
+-- what is asked of the callers: clocks of 32 bits that are at most 30 apart, 16 random bytes each, and room in the buffers
+pub record Able (c s : Caller) (b1 b2 b3 b4 : List ℕ) : Type 0 where
+  pub client-clock : c .moment .time < 2 ^ 32
+  pub server-clock : s .moment .time < 2 ^ 32
+  pub not-ahead : c .moment .time ≤ s .moment .time + 30
+  pub not-behind : s .moment .time ≤ c .moment .time + 30
+  pub client-random : length (c .random) ≡ 16
+  pub client-bytes : (i : ℕ) → getD (c .random) i 0 < 256
+  pub server-random : length (s .random) ≡ 16
+  pub server-bytes : (i : ℕ) → getD (s .random) i 0 < 256
+  pub room1 : 76 ≤ length b1
+  pub room2 : 76 ≤ length b2
+  pub room3 : 44 ≤ length b3
+  pub room4 : 44 ≤ length b4
 
--- a link after it sent a packet of the opening
-abbrev pub afterSend : Link → ℕ → Link
-afterSend l kind = sentOf l kind 0
-
--- its peer after it received that packet
-abbrev pub afterReceive : Link → Link → ℕ → List ℕ → Moment → Link
-afterReceive k l kind body m = receiveOf k (packetOf l kind body) m .link
-
--- the two links
-pub record Both : Type 0 where
+-- the two links after the opening, what the four send calls answered, and the four receive calls
+pub record Opened : Type 0 where
   pub client : Link
   pub server : Link
+  pub sent : List Sent
+  pub received : List Arrival
 
--- "client Nonce, server Nonce, client Handshake, server Handshake", with the clocks mc and ms
-unfoldable pub opens : Both → Moment → Moment → List ℕ → List ℕ → NetPid → NetPid → Both
-opens b mc ms rc rs pc ps =
-    let c0 = b .client in
-    let s0 = b .server in
-    let c1 = afterSend c0 0x7acb87aa in
-    let s1 = afterReceive s0 c0 0x7acb87aa (nonceFrom c0 mc rc) ms in
-    let s2 = afterSend s1 0x7acb87aa in
-    let c2 = afterReceive c1 s1 0x7acb87aa (nonceFrom s1 ms rs) mc in
-    let c3 = afterSend c2 0x7682eef5 in
-    let s3 = afterReceive s2 c2 0x7682eef5 (handshakeFrom c2 pc ps) ms in
-    let s4 = afterSend s3 0x7682eef5 in
-    let c4 = afterReceive c3 s3 0x7682eef5 (handshakeFrom s3 ps pc) mc in
-    record { client = c4; server = s4 }
+-- "client Nonce, server Nonce, client Handshake, server Handshake", in the buffers b1, b2, b3, b4
+unfoldable pub opens : Link → Link → Caller → Caller → List ℕ → List ℕ → List ℕ → List ℕ → Opened
+opens client server c s b1 b2 b3 b4 =
+    let sent1 = nonceStep client (c .random) (c .moment) (length b1) in
+    let got1 = receiveOf server (nonceBuffer client (c .random) (c .moment) b1) (s .moment) in
+    let sent2 = nonceStep (got1 .link) (s .random) (s .moment) (length b2) in
+    let got2 = receiveOf (sent1 .link) (nonceBuffer (got1 .link) (s .random) (s .moment) b2) (c .moment) in
+    let sent3 = handshakeStep (got2 .link) (c .pid) (s .pid) (length b3) in
+    let got3 = receiveOf (sent2 .link) (handshakeBuffer (got2 .link) (c .pid) (s .pid) b3) (s .moment) in
+    let sent4 = handshakeStep (got3 .link) (s .pid) (c .pid) (length b4) in
+    let got4 = receiveOf (sent3 .link) (handshakeBuffer (got3 .link) (s .pid) (c .pid) b4) (c .moment) in
+    record {
+      client = got4 .link;
+      server = sent4 .link;
+      sent = sent1 .answer ∷ sent2 .answer ∷ sent3 .answer ∷ sent4 .answer ∷ [];
+      received = got1 .answer ∷ got2 .answer ∷ got3 .answer ∷ got4 .answer ∷ [];
+    }

@@ -1,5 +1,5 @@
 // Theorems about two links, and no code: what one sends, the other receives as the same packet.
 //
 // They speak of the definitions that the contracts of the crates below equate every call with, so they hold of the code.
-// The round trip is in proofs/RoundTrip.antt, the opening of two links against each other in proofs/Opening.antt. What
-// they assume of the two links is in specs/.
+// The round trip is in proofs/RoundTrip.antt, the opening of two links against each other, by their send and receive
+// calls, in proofs/Opening.antt, and that open links go on alike in proofs/StepAlike.antt. specs/ has what they assume.

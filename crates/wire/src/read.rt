@@ -1,5 +1,5 @@
-// Reads. Each width is two reads of half the width, so one law serves them all; where the bound is known the
-// compiler makes one load of it.
+// Reads. Each width is two reads of half the width, so one law serves them all. Where all bytes are there they are read
+// from a slice of just their number, of which the compiler makes one load.
 ghost use mathlib.Core.Path.{_≡_};
 ghost use Prim.Native.Nat.{_-_, _<_};
 ghost use lib.ListN.{length};
@@ -53,7 +53,7 @@ pub fn u16_at(s: &[u8], at: usize) -> u16
     low + 256 * wide8(u8_at(s, at + 1))
 }
 
-pub fn u32_at(s: &[u8], at: usize) -> u32
+fn halves32(s: &[u8], at: usize) -> u32
     ensures { λ r. ⌜ r ≡ le (part (now (s .entry)) at 4) ⌝ }
 {
     let low = wide16(u16_at(s, at));
@@ -63,7 +63,16 @@ pub fn u32_at(s: &[u8], at: usize) -> u32
     low + 65536 * wide16(u16_at(s, at + 2))
 }
 
-pub fn u64_at(s: &[u8], at: usize) -> u64
+pub fn u32_at(s: &[u8], at: usize) -> u32
+    ensures { λ r. ⌜ r ≡ le (part (now (s .entry)) at 4) ⌝ }
+{
+    if 4 <= left(s, at) {
+        return halves32(&s[at..at + 4], 0);
+    }
+    halves32(s, at)
+}
+
+fn halves64(s: &[u8], at: usize) -> u64
     ensures { λ r. ⌜ r ≡ le (part (now (s .entry)) at 8) ⌝ }
 {
     let low = wide32(u32_at(s, at));
@@ -71,6 +80,15 @@ pub fn u64_at(s: &[u8], at: usize) -> u64
         return low;
     }
     low + 4294967296 * wide32(u32_at(s, at + 4))
+}
+
+pub fn u64_at(s: &[u8], at: usize) -> u64
+    ensures { λ r. ⌜ r ≡ le (part (now (s .entry)) at 8) ⌝ }
+{
+    if 8 <= left(s, at) {
+        return halves64(&s[at..at + 8], 0);
+    }
+    halves64(s, at)
 }
 
 pub fn i32_at(s: &[u8], at: usize) -> i32

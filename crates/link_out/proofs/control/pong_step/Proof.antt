@@ -1,7 +1,7 @@
 -- `link_out::control::pong_step` meets its contract. Assumes nothing.
 use Rattle.link_out.specs.KeepAlive.{pongStep, pongBuffer}
 use Rattle.wire.proofs.ByteLaws.{length-bytes}
-use Rattle.link_out.proofs.ControlLaws.{refused-step, written-step}
+use Rattle.send_rules.proofs.ControlLaws.{refused-step, written-step}
 use borrow.Author.Needs.{needs}
 use Rattle.link_out.proofs.control.pong_step.Statement.{statement}
 use Rattle.link_out.proofs.control.pong_step.Tie as tie

@@ -1,7 +1,7 @@
 -- `link_out::handshake::handshake_step` meets its contract. Assumes nothing.
 use Rattle.link_out.specs.Handshake.{handshakeStep, handshakeBuffer}
 use Rattle.link_out.proofs.BodyLaws.{length-handshake, with-flags}
-use Rattle.link_out.proofs.ControlLaws.{refused-step, written-step}
+use Rattle.send_rules.proofs.ControlLaws.{refused-step, written-step}
 use borrow.Author.Needs.{needs}
 use Rattle.link_out.proofs.handshake.handshake_step.Statement.{statement}
 use Rattle.link_out.proofs.handshake.handshake_step.Tie as tie

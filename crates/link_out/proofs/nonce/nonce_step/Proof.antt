@@ -2,7 +2,7 @@
 use native.Mathlib.Omega.{arith}
 use Rattle.link_out.specs.Nonce.{nonceStep, nonceBuffer}
 use Rattle.link_out.proofs.BodyLaws.{length-nonce, with-version}
-use Rattle.link_out.proofs.ControlLaws.{refused-step, written-step}
+use Rattle.send_rules.proofs.ControlLaws.{refused-step, written-step}
 use borrow.Author.Needs.{needs}
 use Rattle.link_out.proofs.nonce.nonce_step.Statement.{statement}
 use Rattle.link_out.proofs.nonce.nonce_step.Tie as tie

@@ -1,0 +1,2 @@
+-- The one statement over the table.
+pub mod Starred

@@ -1,0 +1,2 @@
+-- Definitions of crate message_c: the message reader for C.
+pub mod MessageFields

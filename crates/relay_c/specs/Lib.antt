@@ -1,2 +1,0 @@
--- Definitions of crate relay_c: the C interface.
-pub mod MessageFields

@@ -1,0 +1,2 @@
+-- Definitions of crate send: the send call.
+pub mod Send

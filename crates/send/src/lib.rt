@@ -1,0 +1,46 @@
+// Sending on a link: one call for everything that a link may send.
+//
+// `send_step` takes a link by value and hands it back beside the answer; `send` is the same over a link that is lent and
+// updated where it stands. The caller lends the buffer and the payload, and gives time and random bytes. Nothing here
+// decides or writes a byte itself: that is in the crates `link_out` and `message_out`. The type that matters is `ToSend`.
+mod step;
+
+use link_out::NetPid;
+use link_state::Link;
+use link_state::Moment;
+use message_out::Outgoing;
+use packet_out::Sent;
+pub use step::send_step;
+ghost use mathlib.Core.Path.{_≡_};
+ghost use lib.ListN.{length};
+ghost use Rattle.send.specs.Send.{sendOf, sendBuffer};
+
+// What to send; the payload or text of a message goes beside it.
+pub enum ToSend {
+    // with the caller's random bytes, which go beside it: an enum that holds an array is not covered
+    Nonce,
+    Handshake { sender: NetPid, peer: NetPid },
+    // the ID of the Ping
+    Ping(u64),
+    Pong,
+    Message(Outgoing),
+}
+
+// The link is lent, and updated where it stands.
+pub fn send(
+    link: &mut Link,
+    buf: &mut [u8],
+    payload: &[u8],
+    what: ToSend,
+    random: [u8; 16],
+    moment: Moment,
+) -> Sent
+    ensures { λ r. ⌜ (r ≡ sendOf (now (link .entry)) what (now (payload .entry)) random moment (length (now (buf .entry))) .answer)
+        × (now (link .exit) ≡ sendOf (now (link .entry)) what (now (payload .entry)) random moment (length (now (buf .entry))) .link)
+        × (now (buf .exit) ≡ sendBuffer (now (link .entry)) what (now (payload .entry)) random moment (now (buf .entry))) ⌝ }
+{
+    let l = *link;
+    let r = send_step(l, buf, what, payload, random, moment);
+    *link = r.link;
+    r.answer
+}

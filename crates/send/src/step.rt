@@ -1,0 +1,34 @@
+// The by-value core of send.
+use crate::ToSend;
+use link_out::Step;
+use link_out::handshake_step;
+use link_out::nonce_step;
+use link_out::ping_step;
+use link_out::pong_step;
+use link_state::Link;
+use link_state::Moment;
+use message_out::message_step;
+ghost use mathlib.Core.Path.{_≡_};
+ghost use lib.ListN.{length};
+ghost use Rattle.send.specs.Send.{sendOf, sendBuffer};
+
+// The packet at the front of the buffer, and the link after it; or a refusal, which changes neither.
+pub fn send_step(
+    link: Link,
+    buf: &mut [u8],
+    what: ToSend,
+    payload: &[u8],
+    random: [u8; 16],
+    moment: Moment,
+) -> Step
+    ensures { λ r. ⌜ (r ≡ sendOf link what (now (payload .entry)) random moment (length (now (buf .entry))))
+        × (now (buf .exit) ≡ sendBuffer link what (now (payload .entry)) random moment (now (buf .entry))) ⌝ }
+{
+    match what {
+        ToSend::Nonce => nonce_step(link, buf, random, moment),
+        ToSend::Handshake { sender, peer } => handshake_step(link, buf, sender, peer),
+        ToSend::Ping(id) => ping_step(link, buf, id),
+        ToSend::Pong => pong_step(link, buf),
+        ToSend::Message(message) => message_step(link, buf, message, payload),
+    }
+}

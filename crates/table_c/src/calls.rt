@@ -1,0 +1,173 @@
+// A fresh table, and the calls that take one request: ask, reply and cancel.
+use crate::AskStep;
+use crate::CancelStep;
+use crate::RelayAsked;
+use crate::RelayCancelled;
+use crate::RelayReplied;
+use crate::RelayStarted;
+use crate::ReplyStep;
+use inflight::AskAnswer;
+use inflight::CancelAnswer;
+use inflight::FreshAnswer;
+use inflight::FrontNumber;
+use inflight::PublisherNumber;
+use inflight::ReplyAnswer;
+use inflight::Table;
+ghost use mathlib.Core.Path.{_≡_};
+ghost use Rattle.inflight.specs.Tables.{freshOf, askOf, replyOf, cancelOf};
+ghost use Rattle.table_c.specs.CallFields.{startedRefusal, startedFields, askFields, replyFields, cancelFields};
+
+// The answers as numbers.
+fn started_refusal(a: FreshAnswer) -> u8
+    ensures { λ r. ⌜ r ≡ startedRefusal a ⌝ }
+{
+    match a {
+        FreshAnswer::Ready => 0,
+        FreshAnswer::Refused(k) => k,
+    }
+}
+
+fn ask_fields(a: AskAnswer) -> RelayAsked
+    ensures { λ r. ⌜ r ≡ askFields a ⌝ }
+{
+    match a {
+        AskAnswer::Accepted(n) => RelayAsked {
+            refusal: 0,
+            number: n,
+        },
+        AskAnswer::Refused(k) => RelayAsked {
+            refusal: k,
+            number: PublisherNumber(0),
+        },
+    }
+}
+
+fn reply_fields(a: ReplyAnswer) -> RelayReplied
+    ensures { λ r. ⌜ r ≡ replyFields a ⌝ }
+{
+    match a {
+        ReplyAnswer::Front(l, n) => RelayReplied {
+            refusal: 0,
+            link: l,
+            number: n,
+        },
+        ReplyAnswer::Refused(k) => RelayReplied {
+            refusal: k,
+            link: 0,
+            number: FrontNumber(0),
+        },
+    }
+}
+
+fn cancel_fields(a: CancelAnswer) -> RelayCancelled
+    ensures { λ r. ⌜ r ≡ cancelFields a ⌝ }
+{
+    match a {
+        CancelAnswer::Publisher(p, n) => RelayCancelled {
+            refusal: 0,
+            publisher: p,
+            number: n,
+        },
+        CancelAnswer::Refused(k) => RelayCancelled {
+            refusal: k,
+            publisher: 0,
+            number: PublisherNumber(0),
+        },
+    }
+}
+
+// The calls by value, their answers as numbers.
+fn ask_step(t: Table, link: u8, number: FrontNumber, publisher: u8) -> AskStep
+    ensures { λ r. ⌜ (r .answer ≡ askFields (askOf t link number publisher .answer)) × (r .table ≡ askOf t link number publisher .table) ⌝ }
+{
+    let a = inflight::ask(t, link, number, publisher);
+    let after = a.table;
+    let answer = a.answer;
+    AskStep {
+        table: after,
+        answer: ask_fields(answer),
+    }
+}
+
+fn reply_step(t: Table, publisher: u8, number: PublisherNumber) -> ReplyStep
+    ensures { λ r. ⌜ (r .answer ≡ replyFields (replyOf t publisher number .answer)) × (r .table ≡ replyOf t publisher number .table) ⌝ }
+{
+    let a = inflight::reply(t, publisher, number);
+    let after = a.table;
+    let answer = a.answer;
+    ReplyStep {
+        table: after,
+        answer: reply_fields(answer),
+    }
+}
+
+fn cancel_step(t: Table, link: u8, number: FrontNumber) -> CancelStep
+    ensures { λ r. ⌜ (r .answer ≡ cancelFields (cancelOf t link number .answer)) × (r .table ≡ cancelOf t link number .table) ⌝ }
+{
+    let a = inflight::cancel(t, link, number);
+    let after = a.table;
+    let answer = a.answer;
+    CancelStep {
+        table: after,
+        answer: cancel_fields(answer),
+    }
+}
+
+// A table that starts at a first publisher number.
+#[no_mangle]
+pub extern "C" fn relay_fresh(first: PublisherNumber) -> RelayStarted
+    ensures { λ r. ⌜ r ≡ startedFields (freshOf first) ⌝ }
+{
+    let s = inflight::fresh(first);
+    let after = s.table;
+    let answer = s.answer;
+    RelayStarted {
+        refusal: started_refusal(answer),
+        table: after,
+    }
+}
+
+// Ask (link, number, publisher): accepted with a publisher number, or refused.
+#[no_mangle]
+pub extern "C" fn relay_ask(
+    table: &mut Table,
+    link: u8,
+    number: FrontNumber,
+    publisher: u8,
+) -> RelayAsked
+    ensures { λ r. ⌜ (r ≡ askFields (askOf (now (table .entry)) link number publisher .answer))
+        × (now (table .exit) ≡ askOf (now (table .entry)) link number publisher .table) ⌝ }
+{
+    let t = *table;
+    let r = ask_step(t, link, number, publisher);
+    *table = r.table;
+    r.answer
+}
+
+// Reply (publisher, number): hands back link and front number, and frees the request.
+#[no_mangle]
+pub extern "C" fn relay_reply(
+    table: &mut Table,
+    publisher: u8,
+    number: PublisherNumber,
+) -> RelayReplied
+    ensures { λ r. ⌜ (r ≡ replyFields (replyOf (now (table .entry)) publisher number .answer))
+        × (now (table .exit) ≡ replyOf (now (table .entry)) publisher number .table) ⌝ }
+{
+    let t = *table;
+    let r = reply_step(t, publisher, number);
+    *table = r.table;
+    r.answer
+}
+
+// Cancel (link, number): hands back publisher and publisher number, and frees the request.
+#[no_mangle]
+pub extern "C" fn relay_cancel(table: &mut Table, link: u8, number: FrontNumber) -> RelayCancelled
+    ensures { λ r. ⌜ (r ≡ cancelFields (cancelOf (now (table .entry)) link number .answer))
+        × (now (table .exit) ≡ cancelOf (now (table .entry)) link number .table) ⌝ }
+{
+    let t = *table;
+    let r = cancel_step(t, link, number);
+    *table = r.table;
+    r.answer
+}
