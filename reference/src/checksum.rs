@@ -2,7 +2,7 @@
 //! the definition, the less there is to get wrong in the yardstick.
 
 /// A reflected generator polynomial; its lowest bit is the highest power.
-#[derive(Clone, Copy)]
+#[derive(Clone, Copy, PartialEq, Eq)]
 pub struct Polynomial(u32);
 
 pub const CRC32: Polynomial = Polynomial(0xEDB8_8320);

@@ -37,6 +37,22 @@ pub struct Link {
     closed: bool,
 }
 
+/// All that a link knows, to be compared with what another program's link
+/// knows.
+#[derive(Clone, Copy, Debug, PartialEq, Eq)]
+pub struct State {
+    pub closed: bool,
+    /// How many packets of the opening went over; 4 after it.
+    pub stage: u8,
+    pub incoming: u32,
+    pub outgoing: u32,
+    /// Whether packets go under CRC-32C now.
+    pub crc32c: bool,
+    pub their_version: u8,
+    pub awaited: Option<u64>,
+    pub owed: Option<u64>,
+}
+
 #[derive(Clone, Copy, Debug, PartialEq, Eq)]
 pub enum Received {
     /// So many more bytes are needed.
@@ -99,6 +115,19 @@ impl Link {
     /// The number and the checksum that the next packet received must have.
     pub fn expected(&self) -> (u32, Polynomial) {
         (self.incoming, self.checksum)
+    }
+
+    pub fn state(&self) -> State {
+        State {
+            closed: self.closed,
+            stage: self.stage as u8,
+            incoming: self.incoming,
+            outgoing: self.outgoing,
+            crc32c: self.checksum == CRC32C,
+            their_version: self.their_version,
+            awaited: self.awaited,
+            owed: self.owed,
+        }
     }
 
     fn is_turn_of(&self, side: Side) -> Result<(), Refusal> {

@@ -1,0 +1,114 @@
+//! Links: their set-up, and receiving.
+
+use crate::{raw, Refusal};
+
+/// One end of a connection.
+#[derive(Clone, Copy, Debug, PartialEq, Eq)]
+pub enum Side {
+    /// Towards a publisher.
+    Client,
+    /// Towards a front end.
+    Server,
+}
+
+#[derive(Clone, Copy, Debug, PartialEq, Eq)]
+pub struct Settings {
+    pub side: Side,
+    /// Whether CRC-32C is offered by a client, or granted by a server that is
+    /// offered it.
+    pub crc32c: bool,
+}
+
+/// What the caller gives with each call.
+#[derive(Clone, Copy, Debug, PartialEq, Eq)]
+pub struct Moment {
+    /// Our time, in seconds.
+    pub time: u32,
+}
+
+impl Moment {
+    pub(crate) fn raw(self) -> raw::Moment {
+        raw::Moment { time: self.time }
+    }
+}
+
+/// What stands at the front of received bytes.
+#[derive(Clone, Copy, Debug, PartialEq, Eq)]
+pub enum Arrival<'a> {
+    /// At least so many bytes more are needed.
+    Incomplete(usize),
+    Packet {
+        /// Its type.
+        kind: u32,
+        /// How many bytes it takes.
+        consumed: usize,
+        body: &'a [u8],
+    },
+    Refused(Refusal),
+}
+
+/// The state of one end of a connection.
+///
+/// A link is not `Copy`: two that go on from one state would number their
+/// packets alike.
+#[derive(Clone, Debug, PartialEq, Eq)]
+pub struct Link(pub(crate) raw::Link);
+
+impl Link {
+    /// A link before its opening. No settings are refused yet.
+    pub fn new(settings: Settings) -> Result<Link, Refusal> {
+        let settings = raw::Settings {
+            server: settings.side == Side::Server,
+            allows: settings.crc32c,
+        };
+        // SAFETY: all is passed by value.
+        let answer = unsafe { raw::relay_set_up(settings) };
+        Refusal::unless(answer.refusal, Link(answer.link))
+    }
+
+    /// The packet at the front of `bytes`, how many bytes it lacks, or why it
+    /// is refused. Of the refusals, only 20 and 22 leave the link open.
+    pub fn receive<'a>(&mut self, bytes: &'a [u8], moment: Moment) -> Arrival<'a> {
+        let (start, n) = (bytes.as_ptr(), bytes.len());
+        // SAFETY: the link is borrowed, the pointer and length are a slice's.
+        let arrival = unsafe { raw::relay_receive(&mut self.0, start, n, moment.raw()) };
+        match arrival.tag {
+            0 => Arrival::Refused(Refusal::of(arrival.refusal)),
+            1 => Arrival::Incomplete(arrival.more),
+            2 => {
+                // SAFETY: the pointer and length are a slice's.
+                let body = unsafe { raw::relay_body(start, n, arrival) };
+                Arrival::Packet {
+                    kind: arrival.kind,
+                    consumed: arrival.consumed,
+                    body: &bytes[body.at..][..body.len],
+                }
+            }
+            other => unreachable!("an arrival with the tag {other}"),
+        }
+    }
+
+    /// Whether a refused packet has closed the link.
+    pub fn is_closed(&self) -> bool {
+        self.0.closed
+    }
+
+    /// Whether all four packets of the opening went over.
+    pub fn is_open(&self) -> bool {
+        !self.0.closed && self.0.stage >= 4
+    }
+
+    /// The state as it crosses the C interface.
+    #[cfg(feature = "raw")]
+    pub fn raw(&mut self) -> &mut raw::Link {
+        &mut self.0
+    }
+}
+
+/// Their time minus ours, by the body of their Nonce; none if that is not from
+/// -30 to 30 seconds.
+pub fn clock_difference(body: &[u8], moment: Moment) -> Option<i64> {
+    // SAFETY: the pointer and length are a slice's.
+    let clock = unsafe { raw::relay_clock_difference(body.as_ptr(), body.len(), moment.raw()) };
+    clock.near.then_some(clock.difference)
+}

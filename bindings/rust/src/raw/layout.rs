@@ -1,0 +1,202 @@
+//! tests/layout.c holds the sizes, offsets and constants of include/relay.h
+//! against numbers; here the Rust side is held against the same lines.
+
+use super::structs::*;
+use crate::{packet_type as t, FrontNumber, NetPid, PublisherNumber, Refusal};
+use std::mem::{offset_of, size_of};
+use std::path::Path;
+use std::process::Command;
+
+const LINES: &str = include_str!("../../tests/layout.c");
+
+/// The lines of a struct, by its name in C.
+macro_rules! lines {
+    ($c:ident, $rust:ident { $($name:tt: $field:tt),* }) => {{
+        let mut lines = vec![format!("SIZE({}, {})", stringify!($c), size_of::<$rust>())];
+        $(lines.push(format!(
+            "AT({}, {}, {})",
+            stringify!($c),
+            stringify!($name),
+            offset_of!($rust, $field)
+        ));)*
+        lines
+    }};
+    ($c:ident, $rust:ident { $($field:ident),* }) => {
+        lines!($c, $rust { $($field: $field),* })
+    };
+}
+
+fn structs() -> Vec<String> {
+    [
+        lines!(
+            relay_message,
+            Message {
+                kind,
+                refusal,
+                hasactor,
+                hastimeout,
+                tl2,
+                number,
+                actor,
+                timeout,
+                code,
+                at,
+                len
+            }
+        ),
+        lines!(relay_settings, Settings { server, allows }),
+        lines!(relay_moment, Moment { time }),
+        lines!(
+            relay_link,
+            Link {
+                set,
+                closed,
+                crc32c,
+                version,
+                stage,
+                sends,
+                gets,
+                awaits,
+                awaited,
+                owes,
+                owed
+            }
+        ),
+        lines!(relay_set_up_answer, SetUp { refusal, link }),
+        lines!(
+            relay_arrival,
+            Arrival {
+                tag,
+                refusal,
+                kind,
+                more,
+                consumed,
+                at,
+                len
+            }
+        ),
+        lines!(relay_part, Part { at, len }),
+        lines!(relay_clock, Clock { near, difference }),
+        lines!(
+            relay_netpid,
+            NetPid {
+                ip,
+                port,
+                pid,
+                start
+            }
+        ),
+        lines!(
+            relay_outgoing,
+            Outgoing {
+                kind,
+                error,
+                hasactor,
+                hastimeout,
+                tl2,
+                timeout,
+                code,
+                number,
+                actor,
+                id,
+                random,
+                sender,
+                peer
+            }
+        ),
+        lines!(relay_sent, Sent { refusal, size }),
+        lines!(relay_front_number, FrontNumber { value: 0 }),
+        lines!(relay_publisher_number, PublisherNumber { value: 0 }),
+        lines!(
+            relay_request,
+            Request {
+                link,
+                front,
+                publisher,
+                number
+            }
+        ),
+        lines!(
+            relay_table,
+            Table {
+                requests,
+                count,
+                next
+            }
+        ),
+        lines!(relay_started, Started { refusal, table }),
+        lines!(relay_asked, Asked { refusal, number }),
+        lines!(
+            relay_replied,
+            Replied {
+                refusal,
+                link,
+                number
+            }
+        ),
+        lines!(
+            relay_cancelled,
+            Cancelled {
+                refusal,
+                publisher,
+                number
+            }
+        ),
+        lines!(relay_dropped, Dropped { refusal, count }),
+    ]
+    .concat()
+}
+
+fn constants() -> Vec<String> {
+    let refusals = Refusal::ALL
+        .iter()
+        .map(|(name, refusal)| format!("IS(RELAY_{name}, {})", refusal.number()));
+    let types = [
+        ("NONCE", t::NONCE),
+        ("HANDSHAKE", t::HANDSHAKE),
+        ("PING", t::PING),
+        ("PONG", t::PONG),
+        ("INVOKE", t::INVOKE),
+        ("CANCEL", t::CANCEL),
+        ("CLIENT_FIN", t::CLIENT_FIN),
+        ("RESULT", t::RESULT),
+        ("OLD_ERROR", t::OLD_ERROR),
+        ("SERVER_FIN", t::SERVER_FIN),
+    ];
+    let types = types
+        .iter()
+        .map(|(name, value)| format!("IS(RELAY_{name}, {value:#010x})"));
+    refusals.chain(types).collect()
+}
+
+#[test]
+fn rust_has_the_numbers_of_the_c_file() {
+    let is_ours = |line: &&str| ["SIZE(", "AT(", "IS("].iter().any(|w| line.starts_with(w));
+    let theirs: Vec<&str> = LINES.lines().filter(is_ours).collect();
+    assert_eq!([structs(), constants()].concat(), theirs);
+}
+
+/// Compiles and leaves nothing behind.
+fn compile(words: &[&str]) {
+    let root = Path::new(env!("CARGO_MANIFEST_DIR"));
+    let status = Command::new(words[0])
+        .args(["-Wall", "-Wextra", "-pedantic", "-Werror", "-fsyntax-only"])
+        .arg("-I")
+        .arg(root.join("../../include"))
+        .args(&words[1..])
+        .current_dir(root)
+        .status()
+        .unwrap_or_else(|error| panic!("{}: {error}", words[0]));
+    assert!(status.success(), "{words:?}");
+}
+
+#[test]
+fn c_has_the_numbers_of_the_c_file() {
+    compile(&["cc", "-std=c11", "tests/layout.c"]);
+}
+
+#[test]
+fn the_header_is_c99_and_cplusplus() {
+    compile(&["cc", "-std=c99", "-x", "c", "../../include/relay.h"]);
+    compile(&["c++", "-std=c++11", "-x", "c++", "../../include/relay.h"]);
+}

@@ -1,0 +1,161 @@
+//! The structs that cross the C interface. What each field means is said in
+//! include/relay.h.
+
+use crate::{FrontNumber, NetPid, PublisherNumber};
+
+#[repr(C)]
+#[derive(Clone, Copy, Debug, PartialEq, Eq)]
+pub struct Message {
+    pub kind: u8,
+    pub refusal: u8,
+    pub hasactor: bool,
+    pub hastimeout: bool,
+    pub tl2: bool,
+    pub number: i64,
+    pub actor: i64,
+    pub timeout: u32,
+    pub code: i32,
+    pub at: usize,
+    pub len: usize,
+}
+
+#[repr(C)]
+#[derive(Clone, Copy, Debug, PartialEq, Eq)]
+pub struct Settings {
+    pub server: bool,
+    pub allows: bool,
+}
+
+#[repr(C)]
+#[derive(Clone, Copy, Debug, PartialEq, Eq)]
+pub struct Moment {
+    pub time: u32,
+}
+
+#[repr(C)]
+#[derive(Clone, Copy, Debug, PartialEq, Eq)]
+pub struct Link {
+    pub set: Settings,
+    pub closed: bool,
+    pub crc32c: bool,
+    pub version: u8,
+    pub stage: u8,
+    pub sends: u32,
+    pub gets: u32,
+    pub awaits: bool,
+    pub awaited: u64,
+    pub owes: bool,
+    pub owed: u64,
+}
+
+#[repr(C)]
+#[derive(Clone, Copy, Debug, PartialEq, Eq)]
+pub struct SetUp {
+    pub refusal: u8,
+    pub link: Link,
+}
+
+#[repr(C)]
+#[derive(Clone, Copy, Debug, PartialEq, Eq)]
+pub struct Arrival {
+    pub tag: u8,
+    pub refusal: u8,
+    pub kind: u32,
+    pub more: usize,
+    pub consumed: usize,
+    pub at: usize,
+    pub len: usize,
+}
+
+#[repr(C)]
+#[derive(Clone, Copy, Debug, PartialEq, Eq)]
+pub struct Part {
+    pub at: usize,
+    pub len: usize,
+}
+
+#[repr(C)]
+#[derive(Clone, Copy, Debug, PartialEq, Eq)]
+pub struct Clock {
+    pub near: bool,
+    pub difference: i64,
+}
+
+#[repr(C)]
+#[derive(Clone, Copy, Debug, Default, PartialEq, Eq)]
+pub struct Outgoing {
+    pub kind: u32,
+    pub error: bool,
+    pub hasactor: bool,
+    pub hastimeout: bool,
+    pub tl2: bool,
+    pub timeout: u32,
+    pub code: i32,
+    pub number: i64,
+    pub actor: i64,
+    pub id: u64,
+    pub random: [u8; 16],
+    pub sender: NetPid,
+    pub peer: NetPid,
+}
+
+#[repr(C)]
+#[derive(Clone, Copy, Debug, PartialEq, Eq)]
+pub struct Sent {
+    pub refusal: u8,
+    pub size: usize,
+}
+
+#[repr(C)]
+#[derive(Clone, Copy, Debug, PartialEq, Eq)]
+pub struct Request {
+    pub link: u8,
+    pub front: FrontNumber,
+    pub publisher: u8,
+    pub number: PublisherNumber,
+}
+
+#[repr(C)]
+#[derive(Clone, Copy, Debug, PartialEq, Eq)]
+pub struct Table {
+    pub requests: [Request; 64],
+    pub count: usize,
+    pub next: [PublisherNumber; 8],
+}
+
+#[repr(C)]
+#[derive(Clone, Copy, Debug, PartialEq, Eq)]
+pub struct Started {
+    pub refusal: u8,
+    pub table: Table,
+}
+
+#[repr(C)]
+#[derive(Clone, Copy, Debug, PartialEq, Eq)]
+pub struct Asked {
+    pub refusal: u8,
+    pub number: PublisherNumber,
+}
+
+#[repr(C)]
+#[derive(Clone, Copy, Debug, PartialEq, Eq)]
+pub struct Replied {
+    pub refusal: u8,
+    pub link: u8,
+    pub number: FrontNumber,
+}
+
+#[repr(C)]
+#[derive(Clone, Copy, Debug, PartialEq, Eq)]
+pub struct Cancelled {
+    pub refusal: u8,
+    pub publisher: u8,
+    pub number: PublisherNumber,
+}
+
+#[repr(C)]
+#[derive(Clone, Copy, Debug, PartialEq, Eq)]
+pub struct Dropped {
+    pub refusal: u8,
+    pub count: usize,
+}

@@ -1,0 +1,48 @@
+//! The layout on the archive's side, seen by values: each field that a call
+//! writes gets a value that no other field has and is read here, and each field
+//! that a call reads is written here and seen by what the call does.
+
+mod links;
+mod messages;
+mod sends;
+mod tables;
+
+use super::*;
+
+/// A packet under CRC-32.
+fn packet(number: u32, kind: u32, body: &[u8]) -> Vec<u8> {
+    let length = body.len() as u32 + 16;
+    let mut packet: Vec<u8> = [length, number, kind]
+        .into_iter()
+        .flat_map(u32::to_le_bytes)
+        .collect();
+    packet.extend(body);
+    let sum = crate::checksum::crc32(&packet);
+    packet.extend(sum.to_le_bytes());
+    packet
+}
+
+fn link(server: bool, allows: bool) -> Link {
+    let answer = unsafe { relay_set_up(Settings { server, allows }) };
+    assert_eq!(answer.refusal, 0);
+    answer.link
+}
+
+fn receive(link: &mut Link, bytes: &[u8], time: u32) -> Arrival {
+    unsafe { relay_receive(link, bytes.as_ptr(), bytes.len(), Moment { time }) }
+}
+
+fn send(link: &mut Link, buf: &mut [u8], payload: &[u8], outgoing: Outgoing) -> Sent {
+    let moment = Moment { time: 0x0403_0201 };
+    unsafe {
+        relay_send(
+            link,
+            buf.as_mut_ptr(),
+            buf.len(),
+            payload.as_ptr(),
+            payload.len(),
+            outgoing,
+            moment,
+        )
+    }
+}

@@ -1,0 +1,132 @@
+//! Bytes and numbers that no honest peer sends: every call answers.
+
+use relay::{
+    checksum, clock_difference, packet_type, read_message, Arrival, FrontNumber, Link, Moment,
+    PublisherNumber, Refusal, Settings, Side, Table,
+};
+
+const NOW: Moment = Moment { time: 0 };
+const SIDES: [Side; 2] = [Side::Client, Side::Server];
+
+/// A small generator, the same bytes on every run.
+struct Random(u64);
+
+impl Random {
+    fn next(&mut self) -> u64 {
+        self.0 ^= self.0 << 13;
+        self.0 ^= self.0 >> 7;
+        self.0 ^= self.0 << 17;
+        self.0
+    }
+
+    fn bytes(&mut self, n: usize) -> Vec<u8> {
+        (0..n).map(|_| self.next() as u8).collect()
+    }
+}
+
+fn link(side: Side) -> Link {
+    Link::new(Settings { side, crc32c: true }).unwrap()
+}
+
+#[test]
+fn lengths_of_all_sizes() {
+    for (length, number) in [
+        (0, 1),
+        (15, 1),
+        (1024, 3),
+        (16_777_215, 3),
+        (16_777_216, 3),
+        (u32::MAX, 3),
+    ] {
+        let bytes = u32::to_le_bytes(length);
+        match link(Side::Server).receive(&bytes, NOW) {
+            Arrival::Refused(refusal) => assert_eq!(refusal.number(), number),
+            other => panic!("{other:?}"),
+        }
+    }
+    for length in [16, 1023] {
+        let bytes = u32::to_le_bytes(length);
+        let arrival = link(Side::Server).receive(&bytes, NOW);
+        assert_eq!(arrival, Arrival::Incomplete(8));
+    }
+}
+
+#[test]
+fn random_bytes_at_either_side() {
+    let mut random = Random(1);
+    for n in 0..2000 {
+        let bytes = random.bytes(n % 100);
+        for side in SIDES {
+            let mut link = link(side);
+            let arrival = link.receive(&bytes, NOW);
+            match (side, arrival) {
+                (Side::Client, answer) => {
+                    assert_eq!(answer, Arrival::Refused(Refusal::NOT_OUR_TURN));
+                }
+                (Side::Server, Arrival::Refused(_)) => assert!(link.is_closed()),
+                (Side::Server, Arrival::Incomplete(_)) => assert!(!link.is_closed()),
+                (Side::Server, packet) => panic!("{packet:?}"),
+            }
+        }
+    }
+}
+
+#[test]
+fn random_bodies_of_messages() {
+    let mut random = Random(2);
+    let kinds = [
+        packet_type::INVOKE,
+        packet_type::CANCEL,
+        packet_type::CLIENT_FIN,
+        packet_type::RESULT,
+        packet_type::OLD_ERROR,
+        packet_type::SERVER_FIN,
+        packet_type::PING,
+        0,
+    ];
+    for n in 0..4000 {
+        let body = random.bytes(n % 80);
+        for side in SIDES {
+            for kind in kinds {
+                // What it lends back is a part of the body, or this panics.
+                let _ = read_message(side, kind, &body);
+            }
+        }
+        clock_difference(&body, NOW);
+        assert_eq!(checksum::crc32_update(0, &body), checksum::crc32(&body));
+        assert_eq!(checksum::crc32c_update(0, &body), checksum::crc32c(&body));
+    }
+}
+
+#[test]
+fn a_text_that_claims_more_than_there_is() {
+    let mut body = 1_i64.to_le_bytes().to_vec();
+    body.extend([1, 0, 0, 0, 254, 0xff, 0xff, 0xff]);
+    let read = read_message(Side::Client, packet_type::OLD_ERROR, &body);
+    assert_eq!(read, Err(Refusal::MESSAGE_CUT));
+}
+
+#[test]
+fn numbers_out_of_any_range_at_the_table() {
+    let mut table = Table::new(PublisherNumber(i64::MAX)).unwrap();
+    let mut random = Random(3);
+    let mut out = [0; 7];
+    for _ in 0..20_000 {
+        let (a, b, number) = (random.next() as u8, random.next() as u8, random.next());
+        let number = [0, 1, -1, i64::MAX, i64::MIN, number as i64][number as usize % 6];
+        let _ = table.ask(a % 40, FrontNumber(number), b % 10);
+        let _ = table.reply(a % 10, PublisherNumber(number));
+        let _ = table.cancel(a % 40, FrontNumber(number));
+        let _ = table.closed(b, &mut out[..usize::from(a % 8)]).map(drop);
+        let _ = table.lost(b, &mut out[..usize::from(a % 8)]).map(drop);
+    }
+}
+
+#[test]
+fn published_checksums() {
+    assert_eq!(checksum::crc32(b"123456789"), 0xcbf4_3926);
+    assert_eq!(checksum::crc32c(b"123456789"), 0xe306_9283);
+    assert_eq!(checksum::crc32(b""), 0);
+    let whole = checksum::crc32c_update(checksum::crc32c(b"1234"), b"56789");
+    assert_eq!(whole, 0xe306_9283);
+}

@@ -1,0 +1,40 @@
+//! What the core is told, and what it wants done.
+
+use relay::NetPid;
+
+/// The other end of a connection.
+#[derive(Clone, Copy, Debug, PartialEq, Eq, Hash)]
+pub enum Peer {
+    /// A front end; we are its server. Links are 0 to 31.
+    Front(u8),
+    /// A publisher, 0 to 7; we are its client.
+    Publisher(u8),
+}
+
+/// What a new connection needs for its opening.
+#[derive(Clone, Copy)]
+pub struct Opening {
+    /// For our Nonce.
+    pub random: [u8; 16],
+    /// For our Handshake: who we are, and who they are.
+    pub own: NetPid,
+    pub peer: NetPid,
+}
+
+pub enum Event<'a> {
+    /// A connection stands; no byte has gone over it.
+    Connected(Peer, Opening),
+    Bytes(Peer, &'a [u8]),
+    /// A connection is gone.
+    Closed(Peer),
+    /// One interval of the keep-alive is over.
+    Tick,
+}
+
+#[derive(Debug, PartialEq, Eq)]
+pub enum Action {
+    Send(Peer, Vec<u8>),
+    /// Everything sent before goes out, then the connection ends. No event
+    /// `Closed` need follow.
+    Close(Peer),
+}

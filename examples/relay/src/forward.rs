@@ -1,0 +1,162 @@
+//! The way of a request: to its publisher, and its answer back. Each step asks
+//! the table, which alone knows whose request a number is.
+
+use crate::core::Core;
+use crate::event::Peer;
+use relay::{Answer, FrontNumber, Invoke, Message, PublisherNumber, Refusal, ToSend, ALL_ENDS};
+
+/// The publisher of a request: its actor modulo 8, or 0 without an actor.
+/// (Document 01 leaves routing to the caller; this is the example's rule.)
+fn route(actor: Option<i64>) -> u8 {
+    actor.unwrap_or(0).rem_euclid(8) as u8
+}
+
+impl Core {
+    /// A request of a front end. After its fin there may be none.
+    pub(crate) fn invoke(&mut self, link: u8, invoke: Invoke) {
+        let peer = Peer::Front(link);
+        if self.connection(peer).is_some_and(|front| front.fin) {
+            return self.close(peer);
+        }
+        let publisher = route(invoke.actor);
+        let front = FrontNumber(invoke.number);
+        match self.table.ask(link, front, publisher) {
+            Ok(number) => {
+                self.counts.asked += 1;
+                self.pass_on(link, publisher, number, invoke);
+            }
+            Err(refusal) => self.refuse(link, front, refusal),
+        }
+    }
+
+    /// An accepted request goes out under the publisher's number. If there is
+    /// no way to the publisher, it ends here.
+    fn pass_on(&mut self, link: u8, publisher: u8, number: PublisherNumber, invoke: Invoke) {
+        let front = FrontNumber(invoke.number);
+        let request = Message::Invoke(Invoke {
+            number: number.0,
+            ..invoke
+        });
+        if let Err(refusal) = self.request(publisher, request) {
+            // It was accepted just now, so it is there to be taken back.
+            let _ = self.table.cancel(link, front);
+            self.counts.unsent += 1;
+            self.refuse(link, front, refusal);
+        }
+    }
+
+    fn request(&mut self, publisher: u8, request: Message) -> Result<(), Refusal> {
+        let peer = Peer::Publisher(publisher);
+        match self.connection(peer) {
+            Some(connection) if connection.takes_requests() => {}
+            _ => return Err(Refusal::LINK_CLOSED),
+        }
+        self.send(peer, ToSend::Message(request))?;
+        if let Some(connection) = self.connection(peer) {
+            connection.in_flight += 1;
+        }
+        Ok(())
+    }
+
+    /// A publisher's answer goes back under the front number, if its request
+    /// is in flight, and else nowhere.
+    pub(crate) fn answer(&mut self, publisher: u8, number: i64, answer: Answer) {
+        let Ok((link, front)) = self.table.reply(publisher, PublisherNumber(number)) else {
+            self.counts.late += 1;
+            return;
+        };
+        self.counts.answered += 1;
+        if let Err(refusal) = self.result(link, front, answer) {
+            self.refuse(link, front, refusal);
+        }
+        self.ended(publisher);
+    }
+
+    /// A front end's cancel goes on under the publisher's number.
+    pub(crate) fn cancel(&mut self, link: u8, number: i64) {
+        match self.table.cancel(link, FrontNumber(number)) {
+            Ok((publisher, number)) => {
+                self.counts.cancelled += 1;
+                self.cancel_at(publisher, number);
+            }
+            Err(_) => self.counts.idle_cancels += 1,
+        }
+    }
+
+    /// All requests of a front link that closed are cancelled.
+    pub(crate) fn front_closed(&mut self, link: u8) {
+        let mut ends = [0; ALL_ENDS];
+        let Ok(ends) = self.table.closed(link, &mut ends) else {
+            return;
+        };
+        for (publisher, number) in ends {
+            self.counts.closed += 1;
+            self.cancel_at(publisher, number);
+        }
+    }
+
+    /// All requests of a lost publisher end with an error.
+    pub(crate) fn publisher_lost(&mut self, publisher: u8) {
+        let mut ends = [0; ALL_ENDS];
+        let Ok(ends) = self.table.lost(publisher, &mut ends) else {
+            return;
+        };
+        for (link, front) in ends {
+            self.counts.lost += 1;
+            self.refuse(link, front, Refusal::LINK_CLOSED);
+        }
+    }
+
+    /// From a publisher: no new request goes to it, as our fin tells it, and
+    /// its connection ends with its last answer. From a front end: it sends
+    /// no more requests, and closes when it has its answers.
+    pub(crate) fn fin(&mut self, peer: Peer) {
+        if let Some(connection) = self.connection(peer) {
+            connection.fin = true;
+        }
+        if let Peer::Publisher(publisher) = peer {
+            self.send_or_close(peer, ToSend::Message(Message::ClientFin));
+            self.close_if_done(publisher);
+        }
+    }
+
+    fn cancel_at(&mut self, publisher: u8, number: PublisherNumber) {
+        let cancel = Message::Cancel { number: number.0 };
+        self.send_or_close(Peer::Publisher(publisher), ToSend::Message(cancel));
+        self.ended(publisher);
+    }
+
+    /// A request at a publisher has ended.
+    fn ended(&mut self, publisher: u8) {
+        if let Some(connection) = self.connection(Peer::Publisher(publisher)) {
+            connection.in_flight = connection.in_flight.saturating_sub(1);
+        }
+        self.close_if_done(publisher);
+    }
+
+    fn close_if_done(&mut self, publisher: u8) {
+        let peer = Peer::Publisher(publisher);
+        if self.connection(peer).is_some_and(|c| c.is_done()) {
+            self.close(peer);
+        }
+    }
+
+    fn result(&mut self, link: u8, front: FrontNumber, answer: Answer) -> Result<(), Refusal> {
+        let number = front.0;
+        let result = Message::Result { number, answer };
+        self.send(Peer::Front(link), ToSend::Message(result))
+    }
+
+    /// An error of our own; its code is the refusal's number.
+    fn refuse(&mut self, link: u8, front: FrontNumber, refusal: Refusal) {
+        *self.counts.refused.entry(refusal.number()).or_default() += 1;
+        let text = refusal.to_string();
+        let error = Answer::Error {
+            code: i32::from(refusal.number()),
+            text: text.as_bytes(),
+        };
+        if self.result(link, front, error).is_err() {
+            self.close(Peer::Front(link));
+        }
+    }
+}

@@ -1,0 +1,15 @@
+//! A relay that runs: front ends connect to it, it connects to eight
+//! publishers, and it passes requests one way and answers the other.
+//!
+//! `Core` decides everything and touches no socket: events in, bytes out. All
+//! rules of links, messages and the table are the library's (crate `relay`).
+//! `network` moves the bytes, with threads and the standard library only.
+
+mod connection;
+pub mod core;
+pub mod counts;
+pub mod event;
+mod forward;
+mod keep_alive;
+pub mod network;
+mod opening;

@@ -1,0 +1,35 @@
+//! The relay's core without a network, step by step.
+
+mod connections;
+#[path = "../other_end/mod.rs"]
+mod other_end;
+mod requests;
+mod world;
+
+use reference::message::{Invoke, Message, Outcome};
+
+fn ask(number: i64, actor: i64) -> Message<&'static [u8]> {
+    Message::Invoke(Invoke {
+        number,
+        actor: Some(actor),
+        timeout: None,
+        tl2: false,
+        payload: b"question",
+    })
+}
+
+fn answer(number: i64, payload: &[u8]) -> Message<&[u8]> {
+    Message::Result(number, Outcome::Payload(payload))
+}
+
+fn answered(number: i64, payload: &[u8]) -> Message<Vec<u8>> {
+    Message::Result(number, Outcome::Payload(payload.to_vec()))
+}
+
+/// The code of an error that came under `number`.
+fn code(message: &Message<Vec<u8>>, number: i64) -> i32 {
+    match message {
+        Message::Result(n, Outcome::Error(code, _)) if *n == number => *code,
+        other => panic!("no error under {number}: {other:?}"),
+    }
+}

@@ -1,0 +1,150 @@
+//! A core with all its connections open, and the second program at the other
+//! end of each.
+
+use crate::other_end::{clock, Got, OtherEnd};
+use reference::message::{Invoke, Message, Side};
+use relay::{NetPid, LINKS, PUBLISHERS};
+use relay_example::core::Core;
+use relay_example::event::{Action, Event, Opening, Peer};
+use std::collections::VecDeque;
+
+const NOBODY: NetPid = NetPid {
+    ip: 0,
+    port: 0,
+    pid: 0,
+    start: 0,
+};
+
+pub const OPENING: Opening = Opening {
+    random: [5; 16],
+    own: NOBODY,
+    peer: NOBODY,
+};
+
+type Heard = Message<Vec<u8>>;
+
+pub struct World {
+    pub core: Core,
+    fronts: Vec<(OtherEnd, Vec<Heard>)>,
+    publishers: Vec<(OtherEnd, Vec<Heard>)>,
+    /// Whom the core closed, in order.
+    pub closed: Vec<Peer>,
+    /// Gets bytes, and says nothing any more.
+    pub silent: Option<Peer>,
+}
+
+impl World {
+    pub fn new() -> World {
+        let ends = |count, side| {
+            (0..count)
+                .map(|_| (OtherEnd::new(side, true), vec![]))
+                .collect()
+        };
+        let mut world = World {
+            core: Core::new(),
+            fronts: ends(LINKS, Side::Client),
+            publishers: ends(PUBLISHERS, Side::Server),
+            closed: Vec::new(),
+            silent: None,
+        };
+        for publisher in 0..PUBLISHERS {
+            world.connect(Peer::Publisher(publisher));
+        }
+        for link in 0..LINKS {
+            world.connect(Peer::Front(link));
+        }
+        world
+    }
+
+    fn end(&mut self, peer: Peer) -> &mut (OtherEnd, Vec<Heard>) {
+        match peer {
+            Peer::Front(link) => &mut self.fronts[usize::from(link)],
+            Peer::Publisher(publisher) => &mut self.publishers[usize::from(publisher)],
+        }
+    }
+
+    /// A new connection, opened.
+    pub fn connect(&mut self, peer: Peer) {
+        let side = match peer {
+            Peer::Front(_) => Side::Client,
+            Peer::Publisher(_) => Side::Server,
+        };
+        self.end(peer).0 = OtherEnd::new(side, true);
+        self.tell(Event::Connected(peer, OPENING));
+        self.flush(peer);
+        assert!(self.end(peer).0.open);
+    }
+
+    /// Tells the core, and passes bytes to and fro until all is quiet.
+    pub fn tell(&mut self, event: Event) {
+        let mut actions = VecDeque::from(self.core.handle(event, clock()));
+        while let Some(action) = actions.pop_front() {
+            match action {
+                Action::Send(peer, packet) => {
+                    let end = self.end(peer);
+                    for got in end.0.take_in(&packet).expect("what may be received") {
+                        if let Got::Message(message) = got {
+                            end.1.push(message);
+                        }
+                    }
+                    let bytes = std::mem::take(&mut end.0.output);
+                    if self.silent != Some(peer) {
+                        actions.extend(self.core.handle(Event::Bytes(peer, &bytes), clock()));
+                    }
+                }
+                Action::Close(peer) => self.closed.push(peer),
+            }
+        }
+    }
+
+    fn flush(&mut self, peer: Peer) {
+        let bytes = std::mem::take(&mut self.end(peer).0.output);
+        self.tell(Event::Bytes(peer, &bytes));
+    }
+
+    pub fn front_says(&mut self, link: u8, message: Message<&[u8]>) {
+        self.end(Peer::Front(link)).0.send_message(message);
+        self.flush(Peer::Front(link));
+    }
+
+    pub fn front_says_raw(&mut self, link: u8, packet_type: u32, body: &[u8]) {
+        self.end(Peer::Front(link)).0.send_raw(packet_type, body);
+        self.flush(Peer::Front(link));
+    }
+
+    /// The packet of a message that the test delivers itself.
+    pub fn front_bytes(&mut self, link: u8, message: Message<&[u8]>) -> Vec<u8> {
+        let end = &mut self.end(Peer::Front(link)).0;
+        end.send_message(message);
+        std::mem::take(&mut end.output)
+    }
+
+    pub fn publisher_says(&mut self, publisher: u8, message: Message<&[u8]>) {
+        self.end(Peer::Publisher(publisher)).0.send_message(message);
+        self.flush(Peer::Publisher(publisher));
+    }
+
+    pub fn publisher_says_raw(&mut self, publisher: u8, packet_type: u32, body: &[u8]) {
+        self.end(Peer::Publisher(publisher))
+            .0
+            .send_raw(packet_type, body);
+        self.flush(Peer::Publisher(publisher));
+    }
+
+    /// What came since the last look.
+    pub fn front_got(&mut self, link: u8) -> Vec<Heard> {
+        std::mem::take(&mut self.end(Peer::Front(link)).1)
+    }
+
+    pub fn publisher_got(&mut self, publisher: u8) -> Vec<Heard> {
+        std::mem::take(&mut self.end(Peer::Publisher(publisher)).1)
+    }
+}
+
+/// The number of an invoke.
+pub fn number(message: &Heard) -> i64 {
+    match message {
+        Message::Invoke(Invoke { number, .. }) => *number,
+        other => panic!("no invoke: {other:?}"),
+    }
+}

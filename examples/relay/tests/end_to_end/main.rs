@@ -1,0 +1,141 @@
+//! End to end, over loopback: the relay's program, 32 front ends and eight
+//! publishers that the second program plays. Answers come in any order, late,
+//! twice or never; requests are cancelled; connections break on both sides;
+//! packets are cut anywhere. Each front end checks each answer.
+
+mod answering;
+mod asking;
+mod claims;
+mod front;
+#[path = "../other_end/mod.rs"]
+mod other_end;
+mod process;
+mod publisher;
+mod request;
+mod socket;
+mod tally;
+
+use process::RelayProcess;
+use publisher::Publisher;
+use std::net::SocketAddr;
+use std::sync::atomic::{AtomicBool, Ordering};
+use std::sync::Arc;
+use std::thread;
+use std::time::{Duration, Instant};
+use tally::Tally;
+
+/// Of all random choices, unless the variable SEED gives another. (Timing is
+/// the machine's, so two runs with one seed are not alike.)
+const SEED: u64 = 1;
+const FRONTS: u8 = 32;
+const PUBLISHERS: u8 = 8;
+/// Everybody gives up then, with what was still open.
+const PATIENCE: Duration = Duration::from_secs(40);
+/// If even that hangs, the process ends.
+const HARD_LIMIT: Duration = Duration::from_secs(55);
+
+#[test]
+fn every_answer_finds_its_request() {
+    let deadline = Instant::now() + PATIENCE;
+    let seed = std::env::var("SEED").map_or(SEED, |seed| seed.parse().expect("a number"));
+    let publishers: Vec<Publisher> = (0..PUBLISHERS)
+        .map(|publisher| Publisher::new(publisher, seed))
+        .collect();
+    let addresses: Vec<SocketAddr> = publishers.iter().map(Publisher::address).collect();
+    let relay = RelayProcess::start(&addresses, HARD_LIMIT);
+
+    let done = Arc::new(AtomicBool::new(false));
+    let publishers: Vec<_> = publishers
+        .into_iter()
+        .map(|publisher| {
+            let done = Arc::clone(&done);
+            thread::spawn(move || publisher.play(&done, deadline))
+        })
+        .collect();
+    let address = relay.address();
+    let fronts: Vec<_> = (0..FRONTS)
+        .map(|front| thread::spawn(move || front::play(front, address, seed, deadline)))
+        .collect();
+
+    let mut tally = Tally::default();
+    let mut faults = Vec::new();
+    for thread in fronts {
+        tally.join(thread, &mut faults);
+    }
+    done.store(true, Ordering::Relaxed);
+    for thread in publishers {
+        tally.join(thread, &mut faults);
+    }
+    let counts = relay.counts_when_quiet(Duration::from_secs(5));
+    println!("front ends and publishers:\n{tally}");
+    println!("the relay:\n{counts}");
+    assert!(faults.is_empty(), "{}", faults.join("\n"));
+    check(&tally, &counts);
+}
+
+/// Every request ended, and each thing that the test is for did happen.
+fn check(tally: &Tally, counts: &Tally) {
+    let ends = [
+        "answers",
+        "publisher errors",
+        "refused 20",
+        "refused 31",
+        "refused 32",
+    ];
+    let ends = ends
+        .iter()
+        .chain(&["refused 33", "cancelled", "closed with link"]);
+    let ended: u64 = ends.map(|name| tally.get(name)).sum();
+    assert_eq!(tally.get("asked"), ended, "requests that ended");
+    assert_eq!(counts.get("in_flight"), 0, "requests left in the table");
+    // What was under way when a connection broke came from nowhere else.
+    let answered = tally.get("answers") + tally.get("publisher errors");
+    assert!(answered <= counts.get("answered"), "answers out of nothing");
+    // A cancel that found nothing in flight followed an answer.
+    assert!(
+        tally.get("cancelled") <= counts.get("cancelled"),
+        "requests that vanished"
+    );
+    let sent = counts.get("asked") - counts.get("unsent");
+    assert!(
+        tally.get("asked of publishers") <= sent,
+        "requests out of nothing"
+    );
+    for name in [
+        "answers",
+        "publisher errors",
+        "refused 20",
+        "refused 31",
+        "refused 32",
+        "refused 33",
+        "cancelled",
+        "answered despite cancel",
+        "closed with link",
+        "link dropped",
+        "link broken",
+        "link finished",
+        "pongs to front ends",
+        "pongs to publishers",
+        "relay pings answered",
+        "publisher disconnects",
+        "publisher restarts",
+        "publisher fins",
+        "answers after cancel",
+        "answers twice",
+        "answers from before",
+        "cut writes",
+    ] {
+        assert!(tally.get(name) > 0, "no {name}");
+    }
+    for name in [
+        "late",
+        "lost",
+        "closed",
+        "cancelled",
+        "unsent",
+        "unread",
+        "idle_cancels",
+    ] {
+        assert!(counts.get(name) > 0, "the relay had no {name}");
+    }
+}

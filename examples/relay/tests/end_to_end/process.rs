@@ -1,0 +1,90 @@
+//! The relay's program as a process of its own, ended with the test.
+
+use crate::tally::Tally;
+use std::io::{BufRead, BufReader, Write};
+use std::net::SocketAddr;
+use std::process::{Child, ChildStdin, ChildStdout, Command, Stdio};
+use std::sync::{Arc, Mutex};
+use std::thread;
+use std::time::{Duration, Instant};
+
+pub struct RelayProcess {
+    child: Arc<Mutex<Child>>,
+    pipes: Mutex<(ChildStdin, BufReader<ChildStdout>)>,
+    address: SocketAddr,
+}
+
+impl RelayProcess {
+    /// It, and this process, end after `limit` if the test still runs then.
+    pub fn start(publishers: &[SocketAddr], limit: Duration) -> RelayProcess {
+        let mut child = Command::new(env!("CARGO_BIN_EXE_relay"))
+            .args(["--retry-ms", "50", "--ping-ms", "2000", "127.0.0.1:0"])
+            .args(publishers.iter().map(SocketAddr::to_string))
+            .stdin(Stdio::piped())
+            .stdout(Stdio::piped())
+            .spawn()
+            .expect("the relay's program");
+        let stdin = child.stdin.take().expect("its input");
+        let mut stdout = BufReader::new(child.stdout.take().expect("its output"));
+        let child = Arc::new(Mutex::new(child));
+        end_after(limit, &child);
+        let line = line(&mut stdout);
+        let address = line.strip_prefix("listening on ").expect("its address");
+        RelayProcess {
+            child,
+            pipes: Mutex::new((stdin, stdout)),
+            address: address.parse().expect("its address"),
+        }
+    }
+
+    pub fn address(&self) -> SocketAddr {
+        self.address
+    }
+
+    /// The counts, once nothing is in flight or the time is over.
+    pub fn counts_when_quiet(&self, patience: Duration) -> Tally {
+        let deadline = Instant::now() + patience;
+        loop {
+            let counts = self.counts();
+            if counts.get("in_flight") == 0 || Instant::now() > deadline {
+                return counts;
+            }
+            thread::sleep(Duration::from_millis(20));
+        }
+    }
+
+    fn counts(&self) -> Tally {
+        let mut pipes = self.pipes.lock().expect("the pipes");
+        writeln!(pipes.0).expect("the relay lives");
+        Tally::read(&line(&mut pipes.1))
+    }
+}
+
+impl Drop for RelayProcess {
+    fn drop(&mut self) {
+        end(&self.child);
+    }
+}
+
+fn end_after(limit: Duration, child: &Arc<Mutex<Child>>) {
+    let child = Arc::clone(child);
+    thread::spawn(move || {
+        thread::sleep(limit);
+        eprintln!("the test took longer than {limit:?}");
+        end(&child);
+        std::process::exit(1);
+    });
+}
+
+fn end(child: &Mutex<Child>) {
+    if let Ok(mut child) = child.lock() {
+        let _ = child.kill();
+        let _ = child.wait();
+    }
+}
+
+fn line(stdout: &mut BufReader<ChildStdout>) -> String {
+    let mut line = String::new();
+    stdout.read_line(&mut line).expect("a line of the relay");
+    line.trim_end().to_string()
+}

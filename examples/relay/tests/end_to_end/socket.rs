@@ -1,0 +1,126 @@
+//! A TCP connection to the relay with the second program's link at our end.
+//! What is written is cut at random places.
+
+use crate::other_end::{Got, OtherEnd};
+use reference::generator::Generator;
+use reference::message::Side;
+use std::io::{self, ErrorKind, Read, Write};
+use std::net::{Shutdown, TcpStream};
+use std::thread;
+use std::time::{Duration, Instant};
+
+const READ_TIMEOUT: Duration = Duration::from_millis(4);
+const OPENING_TIMEOUT: Duration = Duration::from_secs(10);
+
+pub struct Socket {
+    stream: TcpStream,
+    pub end: OtherEnd,
+    chunk: Vec<u8>,
+    /// The connection is over.
+    pub ended: bool,
+    pub cut_writes: u64,
+}
+
+impl Socket {
+    /// Opens the link; none if the other side ends the connection before.
+    pub fn open(
+        stream: TcpStream,
+        side: Side,
+        generator: &mut Generator,
+    ) -> Result<Option<Socket>, String> {
+        let set = stream
+            .set_nodelay(true)
+            .and_then(|()| stream.set_nonblocking(false))
+            .and_then(|()| stream.set_read_timeout(Some(READ_TIMEOUT)));
+        set.map_err(|error| format!("a socket's options: {error}"))?;
+        let mut socket = Socket {
+            stream,
+            end: OtherEnd::new(side, generator.below(2) == 0),
+            chunk: vec![0; 32_768],
+            ended: false,
+            cut_writes: 0,
+        };
+        let deadline = Instant::now() + OPENING_TIMEOUT;
+        while !socket.end.open {
+            socket.flush(generator);
+            if !socket.pump()?.is_empty() {
+                return Err("a message in the opening".to_string());
+            }
+            if socket.ended {
+                return Ok(None);
+            }
+            if Instant::now() > deadline {
+                return Err("the opening takes too long".to_string());
+            }
+        }
+        socket.flush(generator);
+        Ok(Some(socket))
+    }
+
+    /// What has come, after a short wait if there is nothing.
+    pub fn pump(&mut self) -> Result<Vec<Got>, String> {
+        match self.stream.read(&mut self.chunk) {
+            Ok(0) => self.ended = true,
+            Ok(count) => return self.end.take_in(&self.chunk[..count]),
+            Err(error) if is_pause(&error) => {}
+            Err(_) => self.ended = true,
+        }
+        Ok(Vec::new())
+    }
+
+    /// Writes what is to go out, whole or in parts.
+    pub fn flush(&mut self, generator: &mut Generator) {
+        let output = std::mem::take(&mut self.end.output);
+        let mut rest = &output[..];
+        let mut parts = match generator.below(4) {
+            0 | 1 => 1,
+            2 => 2 + generator.below(3),
+            // The first bytes one by one.
+            _ => 1 + generator.below(40),
+        };
+        while !rest.is_empty() && !self.ended {
+            let longest = if parts > 5 { 2 } else { rest.len() as u64 };
+            let size = match parts {
+                1 => rest.len(),
+                _ => 1 + generator.below(longest) as usize,
+            };
+            let (part, after) = rest.split_at(size.min(rest.len()));
+            if self.write(part).is_err() {
+                self.ended = true;
+            }
+            if !after.is_empty() {
+                self.cut_writes += 1;
+                pause(generator);
+            }
+            rest = after;
+            parts = (parts - 1).max(1);
+        }
+    }
+
+    fn write(&mut self, part: &[u8]) -> io::Result<()> {
+        self.stream.write_all(part)?;
+        self.stream.flush()
+    }
+
+    /// Ends the connection at once.
+    pub fn drop_now(self) {
+        let _ = self.stream.shutdown(Shutdown::Both);
+    }
+}
+
+fn is_pause(error: &io::Error) -> bool {
+    let kinds = [
+        ErrorKind::WouldBlock,
+        ErrorKind::TimedOut,
+        ErrorKind::Interrupted,
+    ];
+    kinds.contains(&error.kind())
+}
+
+fn pause(generator: &mut Generator) {
+    match generator.below(8) {
+        0 => thread::sleep(Duration::from_micros(generator.below(500))),
+        1 | 2 => thread::yield_now(),
+        _ => {}
+    }
+}

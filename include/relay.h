@@ -1,0 +1,303 @@
+/* The relay core for C: checksums, RPC messages, links, and the table of requests in flight.
+ *
+ * Nothing here opens a socket, reads a clock, allocates or draws a random number: the caller lends bytes, time and
+ * randomness, and gets answers. Every call has a defined answer for every input, hostile ones included.
+ *
+ * What a caller owes: no pointer is NULL, not even where its length is 0; what is lent to be written overlaps nothing
+ * else that the call is lent; a bool is 0 or 1. A call keeps no pointer, and calls on different links or tables may run
+ * at the same time. The numbers of refusals are those of document 01's table.
+ *
+ * Link with librelay.a (bindings/archive builds it). x86-64, System V ABI. */
+#ifndef RELAY_H
+#define RELAY_H
+
+#include <stdbool.h>
+#include <stddef.h>
+#include <stdint.h>
+
+#ifdef __cplusplus
+extern "C" {
+#endif
+
+/* ---- Refusals ---- */
+
+enum {
+    RELAY_LENGTH_UNDER_16 = 1,          /* a packet's length is under 16 */
+    RELAY_LENGTH_OVER_LIMIT = 2,        /* a packet's length is over 16,777,215 */
+    RELAY_LENGTH_IN_OPENING = 3,        /* a packet's length is 1024 or more in the opening */
+    RELAY_PACKET_NUMBER = 4,            /* a packet does not bear the next number */
+    RELAY_TYPE_NOT_ALLOWED = 5,         /* a packet's type is not allowed now */
+    RELAY_CHECKSUM = 6,                 /* a packet's checksum is wrong */
+    RELAY_OPENING_SHORT = 7,            /* the body of a Nonce or Handshake is too short */
+    RELAY_CLOCKS = 8,                   /* the clocks are more than 30 seconds apart */
+    RELAY_ENCRYPTION = 9,               /* the encryption that a Nonce names is not accepted */
+    RELAY_BEYOND_OFFER = 10,            /* a version above ours, or CRC-32C granted though not offered */
+    RELAY_MESSAGE_CUT = 11,             /* a message ends within a field */
+    RELAY_NUMBER_ZERO = 12,             /* a query number is 0 */
+    RELAY_HEADER_REPEATED = 13,         /* a second actor, extra or reqResultHeader */
+    RELAY_HEADER_NOT_CARRIED = 14,      /* a header or mask bit that our links do not carry */
+    RELAY_PAYLOAD_READS_AS_HEADER = 15, /* a payload begins with what would be read as a header */
+    RELAY_BUFFER_TOO_SMALL = 16,        /* what is to be written does not fit the slice */
+    RELAY_BODY_SIZE = 17,               /* a Ping, Pong, cancel or fin of the wrong size, or bytes after an error */
+    RELAY_TEXT_FORM = 18,               /* a text of another form */
+    RELAY_TYPE_NOT_RPC = 19,            /* a type that is no message's, or a message that does not go this way */
+    RELAY_LINK_CLOSED = 20,             /* the link is closed */
+    RELAY_PING_OUT_OF_TURN = 21,        /* a Ping or Pong out of turn */
+    RELAY_NOT_OUR_TURN = 22,            /* it is the other side's turn in the opening */
+    RELAY_OUT_OF_RANGE = 30,            /* a link, publisher or first number is out of range */
+    RELAY_IN_FLIGHT_ALREADY = 31,       /* the link has a request in flight with this number */
+    RELAY_LOAD_AT_LIMIT = 32,           /* the publisher has 16 requests in flight */
+    RELAY_CAPACITY_GONE = 33,           /* what is left of the 64 places is reserved for other publishers */
+    RELAY_NO_SUCH_REQUEST = 34,         /* no such request is in flight */
+    RELAY_EVENT_UNKNOWN_OR_CUT = 35     /* of the program relay_walk alone: an event of no known kind, or cut */
+};
+
+/* ---- Packet types ---- */
+
+#define RELAY_NONCE UINT32_C(0x7acb87aa)
+#define RELAY_HANDSHAKE UINT32_C(0x7682eef5)
+#define RELAY_PING UINT32_C(0x5730a2df)
+#define RELAY_PONG UINT32_C(0x8430eaa7)
+/* Messages of a client. */
+#define RELAY_INVOKE UINT32_C(0x2374df3d)
+#define RELAY_CANCEL UINT32_C(0x193f1b22)
+#define RELAY_CLIENT_FIN UINT32_C(0x0b73429e)
+/* Messages of a server. An old error is read, never written. */
+#define RELAY_RESULT UINT32_C(0x63aeda4e)
+#define RELAY_OLD_ERROR UINT32_C(0x7ae432f5)
+#define RELAY_SERVER_FIN UINT32_C(0xa8ddbc46)
+
+/* ---- Checksums ---- */
+
+/* CRC-32 and CRC-32C of s. */
+uint32_t relay_crc32(const uint8_t *s, size_t n);
+uint32_t relay_crc32c(const uint8_t *s, size_t n);
+
+/* The same of some bytes followed by s, where previous is the checksum of those bytes; 0 for none. */
+uint32_t relay_crc32_update(uint32_t previous, const uint8_t *s, size_t n);
+uint32_t relay_crc32c_update(uint32_t previous, const uint8_t *s, size_t n);
+
+/* ---- Messages ---- */
+
+/* What a message is: relay_message.kind. */
+enum {
+    RELAY_MESSAGE_REFUSED = 0,
+    RELAY_MESSAGE_INVOKE = 1,
+    RELAY_MESSAGE_CANCEL = 2,
+    RELAY_MESSAGE_CLIENT_FIN = 3,
+    RELAY_MESSAGE_PAYLOAD = 4, /* a result with a payload (document 01: a page) */
+    RELAY_MESSAGE_ERROR = 5,   /* a result with an error, in any of its four forms */
+    RELAY_MESSAGE_SERVER_FIN = 6
+};
+
+/* A message that was read. A field that its kind does not have is 0. */
+typedef struct relay_message {
+    uint8_t kind;
+    uint8_t refusal;  /* why it was refused */
+    bool hasactor;    /* an invoke names an actor */
+    bool hastimeout;  /* an invoke has a timeout */
+    bool tl2;         /* an invoke has the TL2 marker */
+    int64_t number;   /* the query number */
+    int64_t actor;
+    uint32_t timeout; /* in milliseconds */
+    int32_t code;     /* an error's */
+    size_t at, len;   /* the payload (document 01: rest, page) or text: len bytes of the body from byte at on */
+} relay_message;
+
+/* The message whose packet has this type and body, as a server reads it, or a client. Nothing is copied. */
+relay_message relay_read_message(bool server, uint32_t type, const uint8_t *body, size_t n);
+
+/* ---- Links ---- */
+
+typedef struct relay_settings {
+    bool server;
+    bool allows; /* CRC-32C is offered by a client, or granted by a server that is offered it */
+} relay_settings;
+
+/* What the caller gives with each call. */
+typedef struct relay_moment {
+    uint32_t time; /* our time, in seconds */
+} relay_moment;
+
+/* A link's state, for its calls alone: made by relay_set_up, lent to each call, and updated where it stands. */
+typedef struct relay_link {
+    relay_settings set;
+    bool closed;
+    bool crc32c;      /* the Handshakes agreed on CRC-32C */
+    uint8_t version;  /* of the other side's Nonce */
+    uint8_t stage;    /* how many packets of the opening went over, in either direction: 4 after it */
+    uint32_t sends;   /* the next packet's number, of each direction */
+    uint32_t gets;
+    bool awaits;      /* a Ping of ours is unanswered, and its ID */
+    uint64_t awaited;
+    bool owes;        /* we owe a Pong, and its ID */
+    uint64_t owed;
+} relay_link;
+
+/* A link before its opening, or why it is refused: refusal is 0 where link may be used. */
+typedef struct relay_set_up_answer {
+    uint8_t refusal;
+    relay_link link;
+} relay_set_up_answer;
+
+relay_set_up_answer relay_set_up(relay_settings settings);
+
+/* What stands at the front of received bytes: relay_arrival.tag. */
+enum {
+    RELAY_ARRIVAL_REFUSED = 0,
+    RELAY_ARRIVAL_INCOMPLETE = 1,
+    RELAY_ARRIVAL_PACKET = 2
+};
+
+/* A field that its tag does not have is 0. */
+typedef struct relay_arrival {
+    uint8_t tag;
+    uint8_t refusal;
+    uint32_t kind;   /* a packet's type */
+    size_t more;     /* how many bytes more are needed at least (document 01: wait for k more) */
+    size_t consumed; /* how many bytes the packet takes (document 01: the bytes used) */
+    size_t at, len;  /* its body: len bytes from byte at on */
+} relay_arrival;
+
+/* The packet at the front of the bytes, how many bytes it lacks, or why it is refused. Refusals 1 to 10, 17 and 21 close
+ * the link; 20, 22 and an incomplete packet leave it as it was. */
+relay_arrival relay_receive(relay_link *link, const uint8_t *bytes, size_t n, relay_moment moment);
+
+/* A part of the lent bytes. */
+typedef struct relay_part {
+    size_t at, len;
+} relay_part;
+
+/* Where the body of the packet that was answered stands in these bytes; empty where there was no packet, or the bytes
+ * do not have it. */
+relay_part relay_body(const uint8_t *bytes, size_t n, relay_arrival arrival);
+
+/* The clock difference, their time minus ours; 0 where the clocks are not near. */
+typedef struct relay_clock {
+    bool near; /* from -30 to 30 seconds */
+    int64_t difference;
+} relay_clock;
+
+/* The clock difference that a Nonce with this body shows. */
+relay_clock relay_clock_difference(const uint8_t *body, size_t n, relay_moment moment);
+
+/* ---- Sending ---- */
+
+/* A process, as a Handshake names it. */
+typedef struct relay_netpid {
+    uint32_t ip;
+    uint16_t port;
+    uint16_t pid;
+    uint32_t start; /* its start time */
+} relay_netpid;
+
+/* What is to be sent; what its type does not have is ignored. */
+typedef struct relay_outgoing {
+    uint32_t kind;    /* the packet's type */
+    bool error;       /* a result is an error: the payload lent to relay_send is its text */
+    bool hasactor;    /* an invoke names an actor */
+    bool hastimeout;  /* an invoke has a timeout */
+    bool tl2;         /* an invoke has the TL2 marker */
+    uint32_t timeout; /* in milliseconds */
+    int32_t code;     /* an error's */
+    int64_t number;   /* a query number */
+    int64_t actor;
+    uint64_t id;      /* a Ping's; a Pong takes the ID of the Ping that it answers */
+    uint8_t random[16]; /* a Nonce's */
+    relay_netpid sender; /* a Handshake's: ours, and the other side's */
+    relay_netpid peer;
+} relay_outgoing;
+
+/* The size of the packet at the front of the buffer, or why none was written: refusal is 0 where one was. */
+typedef struct relay_sent {
+    uint8_t refusal;
+    size_t size;
+} relay_sent;
+
+/* Writes a packet at the front of buf; bytes past it stay. After a refusal the link and every byte of buf are as before.
+ * payload is what an invoke or result carries, or an error's text. A Nonce bears moment's time. */
+relay_sent relay_send(relay_link *link, uint8_t *buf, size_t room, const uint8_t *payload, size_t n,
+                      relay_outgoing outgoing, relay_moment moment);
+
+/* ---- The table of requests in flight (document 01: the ticket table) ---- */
+
+/* The number that a front end gave its request, and the number under which a publisher has it: two types, so that a C
+ * compiler tells them apart. */
+typedef struct relay_front_number {
+    int64_t value;
+} relay_front_number;
+
+typedef struct relay_publisher_number {
+    int64_t value;
+} relay_publisher_number;
+
+/* A request in flight (document 01: a ticket). */
+typedef struct relay_request {
+    uint8_t link;
+    relay_front_number front;
+    uint8_t publisher;
+    relay_publisher_number number;
+} relay_request;
+
+/* A table, for its calls alone: made by relay_fresh, lent to each call, and updated where it stands. Front links are 0
+ * to 31, publishers 0 to 7. */
+typedef struct relay_table {
+    relay_request requests[64]; /* the first count are in flight, oldest accepted first */
+    size_t count;
+    relay_publisher_number next[8];
+} relay_table;
+
+/* In the answers below, refusal is 0 where the call was not refused; the other fields are 0 where it was. A refused call
+ * leaves the table, and the slice that it is lent, as they were. */
+
+typedef struct relay_started {
+    uint8_t refusal;
+    relay_table table; /* after a refusal: a table that starts at 1 */
+} relay_started;
+
+typedef struct relay_asked {
+    uint8_t refusal;
+    relay_publisher_number number;
+} relay_asked;
+
+typedef struct relay_replied {
+    uint8_t refusal;
+    uint8_t link;
+    relay_front_number number;
+} relay_replied;
+
+typedef struct relay_cancelled {
+    uint8_t refusal;
+    uint8_t publisher;
+    relay_publisher_number number;
+} relay_cancelled;
+
+typedef struct relay_dropped {
+    uint8_t refusal;
+    size_t count;
+} relay_dropped;
+
+/* An empty table; first, at least 1, is the first number of every publisher. */
+relay_started relay_fresh(relay_publisher_number first);
+
+/* Accepts a request; answers the number under which the publisher gets it. */
+relay_asked relay_ask(relay_table *table, uint8_t link, relay_front_number number, uint8_t publisher);
+
+/* Frees the request that a publisher replied to; answers its link and front number. */
+relay_replied relay_reply(relay_table *table, uint8_t publisher, relay_publisher_number number);
+
+/* Frees the request that a front end cancelled; answers its publisher and publisher number. */
+relay_cancelled relay_cancel(relay_table *table, uint8_t link, relay_front_number number);
+
+/* A front link closed: frees all its requests and writes publisher and publisher number of each to the front of out,
+ * oldest accepted first; out past them stays. Answers how many there were; 16 if out has not two numbers for each. */
+relay_dropped relay_closed(relay_table *table, uint8_t link, int64_t *out, size_t n);
+
+/* A publisher is lost: the same for its requests, with link and front number of each. */
+relay_dropped relay_lost(relay_table *table, uint8_t publisher, int64_t *out, size_t n);
+
+#ifdef __cplusplus
+}
+#endif
+
+#endif

@@ -1,0 +1,268 @@
+//! One end of a connection in both programs: each call goes to both, and
+//! answer, state and lent bytes are compared.
+
+use crate::compare::{same, Compared, Difference};
+use crate::counts::Counts;
+use crate::draw;
+use crate::messages;
+use reference::link::{packet, Link, Outgoing, Received, State};
+use reference::message::{Message, Outcome, Side, Span};
+use relay::raw;
+use relay::{clock_difference, Arrival, Moment, NetPid, Settings, ToSend};
+
+#[derive(Clone)]
+pub struct End {
+    pub side: Side,
+    pub ours: relay::Link,
+    pub second: Link,
+}
+
+/// A packet that both programs received.
+#[derive(Clone, Copy)]
+pub struct Packet {
+    pub packet_type: u32,
+    pub consumed: usize,
+    pub body: Span,
+}
+
+pub enum Taken {
+    Wait,
+    Packet(Packet),
+    Refused,
+}
+
+pub fn our_side(side: Side) -> relay::Side {
+    match side {
+        Side::Client => relay::Side::Client,
+        Side::Server => relay::Side::Server,
+    }
+}
+
+impl End {
+    pub fn new(side: Side, crc32c: bool) -> End {
+        let settings = Settings {
+            side: our_side(side),
+            crc32c,
+        };
+        End {
+            side,
+            ours: relay::Link::new(settings).expect("no settings are refused"),
+            second: Link::new(side, crc32c),
+        }
+    }
+
+    pub fn same_state(&mut self, call: impl FnOnce() -> String) -> Compared {
+        let ours = state(self.ours.raw());
+        same("a link's state", call, ours, self.second.state())
+    }
+
+    /// Lends the bytes to both.
+    pub fn receive(
+        &mut self,
+        bytes: &[u8],
+        time: u32,
+        counts: &mut Counts,
+    ) -> Result<Taken, Difference> {
+        let side = self.side;
+        let call = || format!("receive at {side:?}, time {time}: {bytes:02x?}");
+        let ours = received(bytes, time, self.ours.receive(bytes, Moment { time }));
+        let second = self.second.receive(bytes, time);
+        let second = second.map_err(|refusal| refusal.number());
+        same("a receive", call, ours, second)?;
+        self.same_state(call)?;
+        counts.add("receive", word(second));
+        Ok(match second {
+            Ok(Received::Wait(_)) => Taken::Wait,
+            Ok(Received::Packet {
+                packet_type,
+                consumed,
+                body,
+                ..
+            }) => Taken::Packet(Packet {
+                packet_type,
+                consumed,
+                body,
+            }),
+            Err(_) => Taken::Refused,
+        })
+    }
+
+    /// Both send into a buffer of `room` bytes that are `filler`; hands back
+    /// the packet.
+    pub fn send(
+        &mut self,
+        what: &Outgoing,
+        time: u32,
+        room: usize,
+        filler: u8,
+        counts: &mut Counts,
+    ) -> Result<Option<Vec<u8>>, Difference> {
+        let side = self.side;
+        let call = || format!("send at {side:?}, room {room}: {}", shown(what));
+        let mut our_buffer = vec![filler; room];
+        let mut buffer = our_buffer.clone();
+        let moment = Moment { time };
+        let ours = self.ours.send(&mut our_buffer, to_send(what), moment);
+        let second = self.second.send(what, &mut buffer);
+        let second = second.map_err(|refusal| refusal.number());
+        same("a send", call, ours.map_err(|r| r.number()), second)?;
+        same("a sent buffer", call, &our_buffer, &buffer)?;
+        self.same_state(call)?;
+        counts.add("send", second.map(|_| kind(what)));
+        Ok(second.ok().map(|size| {
+            buffer.truncate(size);
+            buffer
+        }))
+    }
+
+    /// A packet with the number and checksum that this end expects next.
+    pub fn expected_packet(&self, packet_type: u32, body: &[u8]) -> Vec<u8> {
+        let (number, checksum) = self.second.expected();
+        packet::whole(number, packet_type, body, checksum)
+    }
+
+    /// Both read the message in a packet that they received.
+    pub fn read(&self, received: Packet, bytes: &[u8], counts: &mut Counts) -> Compared {
+        let body = received.body.of(bytes);
+        messages::compare(self.side, received.packet_type, body, counts)
+    }
+}
+
+fn state(link: &raw::Link) -> State {
+    State {
+        closed: link.closed,
+        stage: link.stage,
+        incoming: link.gets,
+        outgoing: link.sends,
+        crc32c: link.crc32c && link.stage >= 4,
+        their_version: link.version,
+        awaited: link.awaits.then_some(link.awaited),
+        owed: link.owes.then_some(link.owed),
+    }
+}
+
+fn received(bytes: &[u8], time: u32, arrival: Arrival) -> Result<Received, u8> {
+    match arrival {
+        Arrival::Incomplete(more) => Ok(Received::Wait(more)),
+        Arrival::Refused(refusal) => Err(refusal.number()),
+        Arrival::Packet {
+            kind,
+            consumed,
+            body,
+        } => Ok(Received::Packet {
+            packet_type: kind,
+            consumed,
+            body: Span {
+                at: body.as_ptr() as usize - bytes.as_ptr() as usize,
+                len: body.len(),
+            },
+            clock: (kind == packet::NONCE)
+                .then(|| clock_difference(body, Moment { time }))
+                .flatten(),
+        }),
+    }
+}
+
+fn word(received: Result<Received, u8>) -> Result<&'static str, u8> {
+    received.map(|received| match received {
+        Received::Wait(_) => "incomplete",
+        Received::Packet { packet_type, .. } => match packet_type {
+            packet::NONCE => "Nonce",
+            packet::HANDSHAKE => "Handshake",
+            packet::PING => "Ping",
+            packet::PONG => "Pong",
+            _ => "another packet",
+        },
+    })
+}
+
+fn kind(what: &Outgoing) -> &'static str {
+    match what {
+        Outgoing::Nonce(..) => "Nonce",
+        Outgoing::Handshake(..) => "Handshake",
+        Outgoing::Ping(_) => "Ping",
+        Outgoing::Pong => "Pong",
+        Outgoing::Message(message) => messages::kind(message),
+    }
+}
+
+fn netpid(bytes: [u8; 12]) -> NetPid {
+    let [a, b, c, d, e, f, g, h, i, j, k, l] = bytes;
+    NetPid {
+        ip: u32::from_le_bytes([a, b, c, d]),
+        port: u16::from_le_bytes([e, f]),
+        pid: u16::from_le_bytes([g, h]),
+        start: u32::from_le_bytes([i, j, k, l]),
+    }
+}
+
+/// The same for our library; the time goes apart.
+pub fn to_send<'a>(what: &Outgoing<'a>) -> ToSend<'a> {
+    match *what {
+        Outgoing::Nonce(_, random) => ToSend::Nonce { random },
+        Outgoing::Handshake(own, peer) => ToSend::Handshake {
+            sender: netpid(own),
+            peer: netpid(peer),
+        },
+        Outgoing::Ping(id) => ToSend::Ping { id },
+        Outgoing::Pong => ToSend::Pong,
+        Outgoing::Message(message) => ToSend::Message(to_message(message)),
+    }
+}
+
+fn to_message(message: Message<&[u8]>) -> relay::Message<'_> {
+    match message {
+        Message::Invoke(invoke) => relay::Message::Invoke(relay::Invoke {
+            number: invoke.number,
+            actor: invoke.actor,
+            timeout: invoke.timeout,
+            tl2: invoke.tl2,
+            payload: invoke.payload,
+        }),
+        Message::Cancel(number) => relay::Message::Cancel { number },
+        Message::ClientFin => relay::Message::ClientFin,
+        Message::ServerFin => relay::Message::ServerFin,
+        Message::Result(number, outcome) => relay::Message::Result {
+            number,
+            answer: match outcome {
+                Outcome::Payload(payload) => relay::Answer::Payload(payload),
+                Outcome::Error(code, text) => relay::Answer::Error { code, text },
+            },
+        },
+    }
+}
+
+fn shown(what: &Outgoing) -> String {
+    format!("{:02x?}", to_send(what))
+}
+
+/// Two ends of one connection that have opened as far as `stage`.
+pub fn opened(
+    settings: [bool; 2],
+    stage: usize,
+    counts: &mut Counts,
+) -> Result<[End; 2], Difference> {
+    let [client, server] = settings;
+    let mut ends = [
+        End::new(Side::Client, client),
+        End::new(Side::Server, server),
+    ];
+    let time = 1_700_000_000;
+    let nonce = Outgoing::Nonce(time, [7; 16]);
+    let handshake = Outgoing::Handshake([1; 12], [2; 12]);
+    for (i, what) in [nonce, nonce, handshake, handshake]
+        .iter()
+        .enumerate()
+        .take(stage)
+    {
+        let sent = ends[i % 2].send(what, time, 100, 0, counts)?;
+        let packet = sent.expect("the opening goes through");
+        ends[1 - i % 2].receive(&packet, time, counts)?;
+    }
+    Ok(ends)
+}
+
+/// A random pair of settings.
+pub fn settings(g: &mut reference::generator::Generator) -> [bool; 2] {
+    [draw::coin(g), draw::coin(g)]
+}

@@ -1,0 +1,91 @@
+//! Holds the proved library against the second program: both get the same
+//! random calls, and every answer, state and lent byte is compared.
+//!
+//! `fuzz --seconds N`, `--cases N` or both say how long; `--seed S` gives other
+//! cases, and `--case C` runs that one alone. At the first difference it prints
+//! the seed, the case and both answers, and exits with 1. At the end it prints
+//! how often each answer was seen.
+
+mod both;
+mod checksums;
+mod clocks;
+mod compare;
+mod conversations;
+mod counts;
+mod draw;
+mod messages;
+mod options;
+mod packets;
+mod sends;
+mod tables;
+mod types;
+
+use compare::Compared;
+use counts::Counts;
+use options::Options;
+use reference::generator::Generator;
+use std::panic::{catch_unwind, AssertUnwindSafe};
+use std::process::ExitCode;
+use std::time::{Duration, Instant};
+
+const HELP: &str = "fuzz [--seconds N] [--cases N] [--seed S] [--case C]";
+
+fn main() -> ExitCode {
+    match Options::read(std::env::args().skip(1)) {
+        Some(options) => run(&options),
+        None => {
+            eprintln!("{HELP}");
+            ExitCode::from(2)
+        }
+    }
+}
+
+fn run(options: &Options) -> ExitCode {
+    let mut counts = Counts::default();
+    let start = Instant::now();
+    let mut said = Duration::ZERO;
+    let mut done = 0;
+    for case in options.first.. {
+        let elapsed = start.elapsed();
+        if options.are_enough(done, elapsed) {
+            break;
+        }
+        if elapsed - said >= Duration::from_secs(60) {
+            eprintln!("{} s, {done} cases", elapsed.as_secs());
+            said = elapsed;
+        }
+        let answer = catch_unwind(AssertUnwindSafe(|| one(options.seed, case, &mut counts)));
+        let difference = match answer {
+            Ok(Ok(())) => None,
+            Ok(Err(difference)) => Some(difference.to_string()),
+            Err(_) => Some("it panicked".to_string()),
+        };
+        if let Some(difference) = difference {
+            println!("seed {}, case {case}: {difference}", options.seed);
+            return ExitCode::FAILURE;
+        }
+        done += 1;
+    }
+    println!("{counts}");
+    println!(
+        "seed {}, {done} cases in {} s, no difference",
+        options.seed,
+        start.elapsed().as_secs()
+    );
+    ExitCode::SUCCESS
+}
+
+/// A case is what a generator of its own draws.
+fn one(seed: u64, case: u64, counts: &mut Counts) -> Compared {
+    let mut generator = Generator::new(seed.wrapping_mul(0x9E37_79B9_7F4A_7C15).wrapping_add(case));
+    let g = &mut generator;
+    match g.below(100) {
+        0..2 => checksums::case(g, counts),
+        2..4 => clocks::case(g, counts),
+        4..35 => messages::case(g, counts),
+        35..70 => conversations::case(g, counts),
+        70..80 => sends::case(g, counts),
+        80..85 => types::case(g, counts),
+        _ => tables::case(g, counts),
+    }
+}
