@@ -20,8 +20,9 @@ use Rattle.link_state.specs.declared.Link.{Link}
 use Rattle.link_state.specs.SetUp as SetUp
 use Rattle.link_state.specs.Turn.{maySend, stageAfter}
 use Rattle.packet.specs.Sum.{castagnoliOf, sumOf}
-use Rattle.packet.specs.Head.{lengthRefusal, allowedOf, headRefusal}
-use Rattle.packet.specs.Frame.{wholeOf, frameOf}
+use Rattle.packet.specs.Allowed.{allowedOf}
+use Rattle.packet_in.specs.Head.{lengthRefusal, headRefusal}
+use Rattle.packet_in.specs.Frame.{wholeOf, frameOf}
 use Rattle.opening.specs.Clock.{clockOf, nonceClock, nearOf}
 use Rattle.opening.specs.Nonce.{leastOf, cipherRefused, beyondOf, nonceRefusal}
 use Rattle.link.specs.Look.{turnRefusal, lookOf}
@@ -33,8 +34,8 @@ use Rattle.packet_out.specs.Size.{sizeOf, fitsOf}
 use Rattle.packet_out.specs.Packet.{headOf, frontOf, packetOf}
 use Rattle.send_rules.specs.Sent.{sentOf}
 use Rattle.send_rules.specs.Control.{sendRefusal, controlAnswer, controlStep}
-use Rattle.link_out.specs.Nonce.{nonceHead, pointOf, nonceBody}
-use Rattle.link_out.specs.KeepAlive.{pingStep}
+use Rattle.nonce_out.specs.Nonce.{nonceHead, pointOf, nonceBody}
+use Rattle.keep_alive_out.specs.KeepAlive.{pingStep}
 use Rattle.inflight.specs.Numbers.{same, after}
 use Rattle.inflight.specs.Matching.{matches, matching, without, sumBelow, nextFree}
 use Rattle.inflight.specs.Model.{askRefusal, accept, takeRefusal}

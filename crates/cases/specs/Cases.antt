@@ -11,8 +11,8 @@ use Rattle.link_state.specs.declared.Moment.{Moment}
 use Rattle.link_state.specs.SetUp.{freshOf}
 use Rattle.packet_out.specs.Packet.{packetOf}
 use Rattle.link.specs.Receive.{receiveOf}
-use Rattle.link_out.specs.Nonce.{nonceBody}
-use Rattle.link_out.specs.KeepAlive.{pingStep}
+use Rattle.nonce_out.specs.Nonce.{nonceBody}
+use Rattle.keep_alive_out.specs.KeepAlive.{pingStep}
 use Rattle.header.specs.declared.Side.the-variants.{Server}
 use Rattle.text.specs.TextForm.{readText}
 use Rattle.invoke.specs.declared.Actor as A

@@ -8,10 +8,10 @@ use lib.ListN.{length, take, drop, getD, length-drop, take-append-drop, drop-of-
 use lib.Seq.{drop-drop, drop-cons, length-take-le}
 use lib.Bits.{bitXor, xor-comm, xor-zero-r, xor-self, xor-shifted}
 use Rattle.wire.specs.Bytes.{le, part}
-use Rattle.wire.proofs.ByteLaws.{Small, small-part, le-join, le-lt}
+use Rattle.wire.proofs.ByteLaws.{Small, small-part, le-4, le-join, le-lt}
 use Rattle.crc.specs.Crc.{clocks, feed, feeds, inverted, crc, update}
 use Rattle.crc.proofs.Xor.{xor-assoc}
-use Rattle.crc.proofs.Register.{clocks-xor, clocks-add, clocks-even}
+use Rattle.crc.proofs.Register.{clocks-xor, clocks-add, clocks-even, word-of-bytes}
 
 -- bytes are one number, added to the register before its bits fall out
 pub feeds-le : (p c : ℕ) (s : List ℕ) → Small s → feeds p c s ≡ clocks p (8 * length s) (bitXor c (le s))
@@ -85,6 +85,19 @@ module _ (p : ℕ) (s : List ℕ) (h : Small s) where
       ap₂ bitXor e (t ∙ ap (clocks p (32 + n)) q)
       ∙ over p c (le (part s i 4)) (le (part s (i + 4) 4)) n (le-lt s i 4 h)
       ∙ ap (λ (x : ℕ). clocks p (32 + n) (bitXor c x)) (sym (le-join s i 4 4 (omega arith)))
+
+  -- four bytes, each looked up by itself
+  pub four-bytes : (i k d : ℕ) {x₀ x₁ x₂ x₃ r₀ r₁ r₂ r₃ : ℕ} → i + 4 ≤ length s
+      → x₀ ≡ getD s (i + 3) 0 → x₁ ≡ getD s (i + 2) 0 → x₂ ≡ getD s (i + 1) 0 → x₃ ≡ getD s i 0
+      → r₀ ≡ clocks p (8 * (k + d)) x₀ → r₁ ≡ clocks p (8 * (k + 1 + d)) x₁ → r₂ ≡ clocks p (8 * (k + 2 + d)) x₂ → r₃ ≡ clocks p (8 * (k + 3 + d)) x₃
+      → bitXor (bitXor (bitXor r₀ r₁) r₂) r₃ ≡ clocks p (8 * (k + (3 + d))) (le (part s i 4))
+  four-bytes i k d f a₀ a₁ a₂ a₃ =
+      let w = le-4 s i f in
+      let h₀ = h i in
+      let h₁ = h (i + 1) in
+      let h₂ = h (i + 2) in
+      let h₃ = h (i + 3) in
+      word-of-bytes p (le (part s i 4)) k d (omega arith) (omega arith) (omega arith) (omega arith)
 
   -- one byte
   pub one-byte : (c i : ℕ) {r : ℕ} → i < length s → r ≡ clocks p 8 (bitXor c (getD s i 0)) → r ≡ feeds p c (part s i 1)

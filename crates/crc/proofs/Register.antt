@@ -66,16 +66,22 @@ byte-step p c = clocks-split p 8 0 c
 peel : (p m n w : ℕ) → m ≡ 8 + n → clocks p m w ≡ bitXor (clocks p n (w / 256)) (clocks p m (w % 256))
 peel p m n w e = rw e (clocks-split p 8 n w)
 
--- four bytes, each looked up by itself: r₀ is the highest byte's entry
-pub word-of-bytes : (p w n₀ n₁ n₂ n₃ : ℕ) {x₀ x₁ x₂ x₃ r₀ r₁ r₂ r₃ : ℕ} → n₁ ≡ 8 + n₀ → n₂ ≡ 8 + n₁ → n₃ ≡ 8 + n₂
+-- four bytes, each looked up by itself, at k and the three places behind it: r₀ is the highest byte's entry
+pub word-of-bytes : (p w k d : ℕ) {x₀ x₁ x₂ x₃ r₀ r₁ r₂ r₃ : ℕ}
     → x₀ ≡ w / 256 / 256 / 256 → x₁ ≡ w / 256 / 256 % 256 → x₂ ≡ w / 256 % 256 → x₃ ≡ w % 256
-    → r₀ ≡ clocks p n₀ x₀ → r₁ ≡ clocks p n₁ x₁ → r₂ ≡ clocks p n₂ x₂ → r₃ ≡ clocks p n₃ x₃
-    → bitXor (bitXor (bitXor r₀ r₁) r₂) r₃ ≡ clocks p n₃ w
-word-of-bytes p w n₀ n₁ n₂ n₃ m₁ m₂ m₃ a₀ a₁ a₂ a₃ e₀ e₁ e₂ e₃ =
+    → r₀ ≡ clocks p (8 * (k + d)) x₀ → r₁ ≡ clocks p (8 * (k + 1 + d)) x₁ → r₂ ≡ clocks p (8 * (k + 2 + d)) x₂ → r₃ ≡ clocks p (8 * (k + 3 + d)) x₃
+    → bitXor (bitXor (bitXor r₀ r₁) r₂) r₃ ≡ clocks p (8 * (k + (3 + d))) w
+word-of-bytes p w k d a₀ a₁ a₂ a₃ e₀ e₁ e₂ e₃ =
+    let n₀ = 8 * (k + d) in
+    let n₁ = 8 * (k + 1 + d) in
+    let n₂ = 8 * (k + 2 + d) in
+    let n₃ = 8 * (k + 3 + d) in
+    let all : n₃ ≡ 8 * (k + (3 + d)) = omega arith in
     ap₂ bitXor
     (ap₂ bitXor
-    (ap₂ bitXor (e₀ ∙ ap (clocks p n₀) a₀) (e₁ ∙ ap (clocks p n₁) a₁) ∙ sym (peel p n₁ n₀ (w / 256 / 256) m₁))
+    (ap₂ bitXor (e₀ ∙ ap (clocks p n₀) a₀) (e₁ ∙ ap (clocks p n₁) a₁) ∙ sym (peel p n₁ n₀ (w / 256 / 256) (omega arith)))
     (e₂ ∙ ap (clocks p n₂) a₂)
-    ∙ sym (peel p n₂ n₁ (w / 256) m₂))
+    ∙ sym (peel p n₂ n₁ (w / 256) (omega arith)))
     (e₃ ∙ ap (clocks p n₃) a₃)
-    ∙ sym (peel p n₃ n₂ w m₃)
+    ∙ sym (peel p n₃ n₂ w (omega arith))
+    ∙ ap (λ (n : ℕ). clocks p n w) all

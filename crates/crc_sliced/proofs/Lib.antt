@@ -1,2 +1,1 @@
-pub mod Bases
 pub mod RowsTest

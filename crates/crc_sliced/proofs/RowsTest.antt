@@ -1,10 +1,10 @@
 -- A table that passes a computed test is right, for every polynomial: an entry is the sum of what its highest power of
--- two and the rest of it stand for, and the powers of two of a row are eight bits ahead of those of the row before. Assumes nothing.
+-- two and the rest of it stand for, and a power of two stands for what a bit more makes of the next one. Assumes nothing.
 use mathlib.Core.Path.{_≡_, refl, sym, ap, ap₂, _∙_}
 use mathlib.Core.Bool.{Bool, true, false, _&&_}
-use mathlib.Core.List.{List, [], _∷_, _++_}
+use mathlib.Core.List.{List, [], _∷_}
 use Prim.Native.Nat.{ℕ, zero, suc, _+_, _-_, _*_, _^_, _≤_, _<_}
-use native.Mathlib.Nat.{le-of-suc-le-suc, not-suc-le-zero, zero-mul, one-mul, mul-suc, pow-suc}
+use native.Mathlib.Nat.{le-of-suc-le-suc, not-suc-le-zero, add-comm, zero-mul, one-mul, mul-suc, pow-suc}
 use native.Mathlib.Omega.{arith}
 use lib.Dec.{T, eqb, eqb→eq, leb}
 use lib.ListN.{length, getD, take, drop, length-drop}
@@ -16,14 +16,7 @@ use Rattle.crc.proofs.Register.{clocks-xor, clocks-add, clocks-even}
 use Rattle.crc.proofs.TableTest.{run, run-is, and-left, and-right}
 use Rattle.crc_sliced.specs.Slices.{Slices}
 
--- ---- the test, whose parts antt computes
-
--- eight bits on
-abbrev chained : ℕ → List ℕ → List ℕ → Bool
-chained p [] [] = true
-chained p [] (c ∷ cs) = false
-chained p (b ∷ bs) [] = false
-chained p (b ∷ bs) (c ∷ cs) = eqb c (run p 8 b) && chained p bs cs
+-- ---- the test, which antt computes
 
 -- each of r is b and one of l, added
 abbrev pairs : ℕ → List ℕ → List ℕ → Bool
@@ -32,46 +25,17 @@ pairs b [] (v ∷ r) = false
 pairs b (u ∷ l) [] = false
 pairs b (u ∷ l) (v ∷ r) = eqb v (bitXor b u) && pairs b l r
 
--- the entries for as many low digits as there are powers of two, which stand for bs
-abbrev grown : List ℕ → List ℕ → Bool
-grown [] row = eqb (getD row 0 0) 0
-grown (b ∷ bs) row = grown bs row && pairs b (take (2 ^ length bs) row) (take (2 ^ length bs) (drop (2 ^ length bs) row))
+-- the entries for n low digits, where x stands for 2 ^ n
+abbrev grown : ℕ → ℕ → ℕ → List ℕ → Bool
+grown p zero x row = eqb (getD row 0 0) 0
+grown p (suc n) x row = grown p n (run p 1 x) row && pairs (run p 1 x) (take (2 ^ n) row) (take (2 ^ n) (drop (2 ^ n) row))
 
-abbrev rows : ℕ → List ℕ → List (List ℕ) → List ℕ → Bool
-rows p bs [] t = true
-rows p bs (cs ∷ rest) t = chained p bs cs && (grown cs (take 256 t) && rows p cs rest (drop 256 t))
-
-abbrev pub lead : ℕ → List ℕ → List (List ℕ) → List (List ℕ) → List ℕ → Bool
-lead p bs [] rest t = rows p bs rest t
-lead p bs (cs ∷ more) rest t = chained p bs cs && lead p cs more rest t
+-- n rows, where x stands for 256 in the first
+abbrev pub rows : ℕ → ℕ → ℕ → List ℕ → Bool
+rows p zero x t = true
+rows p (suc n) x t = grown p 8 x (take 256 t) && rows p n (run p 8 x) (drop 256 t)
 
 -- ---- what it shows
-
--- each is what n bits make of its power of two
-abbrev Basis : ℕ → ℕ → List ℕ → Type 0
-Basis p n [] = Unit {0}
-Basis p n (b ∷ bs) = (b ≡ clocks p n (2 ^ length bs)) × Basis p n bs
-
-chained-length : (p : ℕ) (bs cs : List ℕ) → T (chained p bs cs) → length cs ≡ length bs
-chained-length p [] [] t = refl
-chained-length p [] (c ∷ cs) t = absurd t
-chained-length p (b ∷ bs) [] t = absurd t
-chained-length p (b ∷ bs) (c ∷ cs) t = ap suc (chained-length p bs cs (and-right (eqb c (run p 8 b)) (chained p bs cs) t))
-
-chained-is : (p n : ℕ) (bs cs : List ℕ) → T (chained p bs cs) → Basis p n bs → Basis p (n + 8) cs
-chained-is p n [] [] t h = tt
-chained-is p n [] (c ∷ cs) t h = absurd t
-chained-is p n (b ∷ bs) [] t h = absurd t
-chained-is p n (b ∷ bs) (c ∷ cs) t h =
-    let q = eqb c (run p 8 b) in
-    let r = and-right q (chained p bs cs) t in (
-      eqb→eq c (run p 8 b) (and-left q (chained p bs cs) t)
-          ∙ run-is p 8 b
-          ∙ ap (clocks p 8) (h .0)
-          ∙ sym (clocks-add p n 8 (2 ^ length bs))
-          ∙ ap (λ (m : ℕ). clocks p (n + 8) (2 ^ m)) (sym (chained-length p bs cs r)),
-      chained-is p n bs cs r (h .1),
-    )
 
 pairs-at : (b : ℕ) (l r : List ℕ) → T (pairs b l r) → (i : ℕ) → i < length l → getD r i 0 ≡ bitXor b (getD l i 0)
 pairs-at b [] r t i h = absurd (not-suc-le-zero h)
@@ -79,87 +43,74 @@ pairs-at b (u ∷ l) [] t i h = absurd t
 pairs-at b (u ∷ l) (v ∷ r) t zero h = eqb→eq v (bitXor b u) (and-left (eqb v (bitXor b u)) (pairs b l r) t)
 pairs-at b (u ∷ l) (v ∷ r) t (suc i) h = pairs-at b l r (and-right (eqb v (bitXor b u)) (pairs b l r) t) i (le-of-suc-le-suc h)
 
-grown-at : (p n : ℕ) (bs row : List ℕ) → Basis p n bs → 2 ^ length bs ≤ length row → T (grown bs row) → (x : ℕ) → x < 2 ^ length bs → getD row x 0 ≡ clocks p n x
-grown-at p n [] row h l t zero f = eqb→eq (getD row 0 0) 0 t ∙ sym (ap (clocks p n) (sym (zero-mul (2 ^ n))) ∙ clocks-even p n 0)
-grown-at p n [] row h l t (suc x) f = absurd (not-suc-le-zero (le-of-suc-le-suc f))
-grown-at p n (b ∷ bs) row h l t x f =
-    let m = 2 ^ length bs in
-    let l′ : m * 2 ≤ length row = rw (pow-suc 2 (length bs)) at l in
-    let q = pairs b (take m row) (take m (drop m row)) in
-    go (grown-at p n bs row (h .1) (omega arith) (and-left (grown bs row) q t)) (and-right (grown bs row) q t) (leb m x) refl
+-- as many bits more
+later : (p m k c : ℕ) {x : ℕ} → x ≡ clocks p m c → run p k x ≡ clocks p (m + k) c
+later p m k c {x} e = run-is p k x ∙ ap (clocks p k) e ∙ sym (clocks-add p m k c)
+
+-- a bit more makes of a power of two what the one below it stands for
+halved : (p m n : ℕ) {x : ℕ} → x ≡ clocks p m (2 ^ suc n) → run p 1 x ≡ clocks p m (2 ^ n)
+halved p m n e =
+    later p m 1 (2 ^ suc n) e
+    ∙ ap (λ (k : ℕ). clocks p k (2 ^ suc n)) (add-comm m 1)
+    ∙ clocks-add p 1 m (2 ^ suc n)
+    ∙ ap (clocks p m) (ap (clocks p 1) (pow-suc 2 n) ∙ clocks-even p 1 (2 ^ n))
+
+grown-at : (p m n x : ℕ) (row : List ℕ) → x ≡ clocks p m (2 ^ n) → 2 ^ n ≤ length row → T (grown p n x row) → (i : ℕ) → i < 2 ^ n → getD row i 0 ≡ clocks p m i
+grown-at p m zero x row e l t zero f = eqb→eq (getD row 0 0) 0 t ∙ sym (ap (clocks p m) (sym (zero-mul (2 ^ m))) ∙ clocks-even p m 0)
+grown-at p m zero x row e l t (suc i) f = absurd (not-suc-le-zero (le-of-suc-le-suc f))
+grown-at p m (suc n) x row e l t i f =
+    let l′ : 2 ^ n * 2 ≤ length row = rw (pow-suc 2 n) at l in
+    let y = run p 1 x in
+    let q = pairs y (take (2 ^ n) row) (take (2 ^ n) (drop (2 ^ n) row)) in
+    go (grown-at p m n y row (halved p m n e) (omega arith) (and-left (grown p n y row) q t)) (and-right (grown p n y row) q t) (leb (2 ^ n) i) refl
   where
-    go : ((y : ℕ) → y < 2 ^ length bs → getD row y 0 ≡ clocks p n y) → T (pairs b (take (2 ^ length bs) row) (take (2 ^ length bs) (drop (2 ^ length bs) row)))
-        → (o : Bool) → leb (2 ^ length bs) x ≡ o → getD row x 0 ≡ clocks p n x
-    go below u false e = below x (leb-false (2 ^ length bs) x e)
-    go below u true e =
-        let m = 2 ^ length bs in
-        let g = leb-true m x e in
-        let l′ : m * 2 ≤ length row = rw (pow-suc 2 (length bs)) at l in
-        let f′ : x < m * 2 = rw (pow-suc 2 (length bs)) at f in
-        let y : x - m < m = omega arith in
-        let i : x ≡ m + (x - m) = omega arith in
-        let j : 1 * m + (x - m) ≡ x = omega arith in
-        let w : x - m < length (take m row) = rw (length-take-le m row (omega arith)) y in
-        ap (λ (k : ℕ). getD row k 0) i
-        ∙ sym (getD-drop m row (x - m) 0)
-        ∙ sym (getD-take m (drop m row) (x - m) 0 y)
-        ∙ pairs-at b (take m row) (take m (drop m row)) u (x - m) w
-        ∙ ap₂ bitXor (h .0 ∙ ap (clocks p n) (sym (one-mul m))) (getD-take m row (x - m) 0 y ∙ below (x - m) y)
-        ∙ sym (clocks-xor p n (1 * m) (x - m))
-        ∙ ap (clocks p n) (xor-shifted 1 (length bs) (x - m) y ∙ j)
+    go : ((j : ℕ) → j < 2 ^ n → getD row j 0 ≡ clocks p m j) → T (pairs (run p 1 x) (take (2 ^ n) row) (take (2 ^ n) (drop (2 ^ n) row)))
+        → (o : Bool) → leb (2 ^ n) i ≡ o → getD row i 0 ≡ clocks p m i
+    go below u false z = below i (leb-false (2 ^ n) i z)
+    go below u true z =
+        let b = 2 ^ n in
+        let g = leb-true b i z in
+        let l′ : b * 2 ≤ length row = rw (pow-suc 2 n) at l in
+        let f′ : i < b * 2 = rw (pow-suc 2 n) at f in
+        let y : i - b < b = omega arith in
+        let j : i ≡ b + (i - b) = omega arith in
+        let k : 1 * b + (i - b) ≡ i = omega arith in
+        let w : i - b < length (take b row) = rw (length-take-le b row (omega arith)) y in
+        ap (λ (a : ℕ). getD row a 0) j
+        ∙ sym (getD-drop b row (i - b) 0)
+        ∙ sym (getD-take b (drop b row) (i - b) 0 y)
+        ∙ pairs-at (run p 1 x) (take b row) (take b (drop b row)) u (i - b) w
+        ∙ ap₂ bitXor (halved p m n e ∙ ap (clocks p m) (sym (one-mul b))) (getD-take b row (i - b) 0 y ∙ below (i - b) y)
+        ∙ sym (clocks-xor p m (1 * b) (i - b))
+        ∙ ap (clocks p m) (xor-shifted 1 n (i - b) y ∙ k)
 
-rows-at : (p n : ℕ) (bs : List ℕ) (rest : List (List ℕ)) (t : List ℕ) → length bs ≡ 8 → Basis p n bs → T (rows p bs rest t)
-    → (k x : ℕ) → k < length rest → 256 * length rest ≤ length t → x < 256 → getD t (k * 256 + x) 0 ≡ clocks p (n + 8 * (k + 1)) x
-rows-at p n bs [] t l h o k x f w g = absurd (not-suc-le-zero f)
-rows-at p n bs (cs ∷ rest) t l h o zero x f w g =
-    let q = chained p bs cs in
-    let u = grown cs (take 256 t) && rows p cs rest (drop 256 t) in
-    let c = and-left q u o in
-    let m : length cs ≡ 8 = chained-length p bs cs c ∙ l in
-    let v : 256 ≤ length t = omega (arith, mul-suc 256 (length rest)) in
-    let y : 2 ^ length cs ≤ length (take 256 t) = rw (m, length-take-le 256 t v) (omega arith) in
-    let i : 0 * 256 + x ≡ x = omega arith in
-    ap (λ (j : ℕ). getD t j 0) i
-    ∙ sym (getD-take 256 t x 0 g)
-    ∙ grown-at p (n + 8) cs (take 256 t) (chained-is p n bs cs c h) y (and-left (grown cs (take 256 t)) (rows p cs rest (drop 256 t)) (and-right q u o)) x (rw m g)
-rows-at p n bs (cs ∷ rest) t l h o (suc k) x f w g =
-    let q = chained p bs cs in
-    let u = grown cs (take 256 t) && rows p cs rest (drop 256 t) in
-    let c = and-left q u o in
-    let i : suc k * 256 + x ≡ 256 + (k * 256 + x) = omega arith in
-    let m : n + 8 + 8 * (k + 1) ≡ n + 8 * (suc k + 1) = omega arith in
-    let v : 256 * length rest ≤ length (drop 256 t) = rw length-drop (omega (arith, mul-suc 256 (length rest))) in
-    ap (λ (j : ℕ). getD t j 0) i
-    ∙ sym (getD-drop 256 t (k * 256 + x) 0)
-    ∙ rows-at p (n + 8) cs rest (drop 256 t) (chained-length p bs cs c ∙ l) (chained-is p n bs cs c h)
-    (and-right (grown cs (take 256 t)) (rows p cs rest (drop 256 t)) (and-right q u o)) k x (le-of-suc-le-suc f) v g
-    ∙ ap (λ (j : ℕ). clocks p j x) m
-
-lead-at : (p n : ℕ) (bs : List ℕ) (more rest : List (List ℕ)) (t : List ℕ) → length bs ≡ 8 → Basis p n bs → T (lead p bs more rest t)
-    → (k x : ℕ) → k < length rest → 256 * length rest ≤ length t → x < 256 → getD t (k * 256 + x) 0 ≡ clocks p (n + 8 * length more + 8 * (k + 1)) x
-lead-at p n bs [] rest t l h o k x f w g =
-    let m : n + 8 * (k + 1) ≡ n + 8 * 0 + 8 * (k + 1) = omega arith in
-    rows-at p n bs rest t l h o k x f w g ∙ ap (λ (j : ℕ). clocks p j x) m
-lead-at p n bs (cs ∷ more) rest t l h o k x f w g =
-    let c = and-left (chained p bs cs) (lead p cs more rest t) o in
-    let m : n + 8 + 8 * length more + 8 * (k + 1) ≡ n + 8 * suc (length more) + 8 * (k + 1) = omega (arith, mul-suc 8 (length more)) in
-    lead-at p (n + 8) cs more rest t (chained-length p bs cs c ∙ l) (chained-is p n bs cs c h) (and-right (chained p bs cs) (lead p cs more rest t) o) k x f w g
-    ∙ ap (λ (j : ℕ). clocks p j x) m
-
--- the powers of two stand for themselves where no bit has fallen out yet
-abbrev pub powers : List ℕ
-powers = 128 ∷ 64 ∷ 32 ∷ 16 ∷ 8 ∷ 4 ∷ 2 ∷ 1 ∷ []
-
-powers-are : (p : ℕ) → Basis p 0 powers
-unfolding clocks
-powers-are p = (refl, (refl, (refl, (refl, (refl, (refl, (refl, (refl, tt))))))))
+rows-at : (p m n x : ℕ) (t : List ℕ) → x ≡ clocks p m 256 → T (rows p n x t)
+    → (k i : ℕ) → k < n → 256 * n ≤ length t → i < 256 → getD t (k * 256 + i) 0 ≡ clocks p (m + 8 * k) i
+rows-at p m zero x t e o k i f w g = absurd (not-suc-le-zero f)
+rows-at p m (suc n) x t e o zero i f w g =
+    let v : 256 ≤ length t = omega (arith, mul-suc 256 n) in
+    let y : 256 ≤ length (take 256 t) = rw (length-take-le 256 t v) (omega arith) in
+    let j : 0 * 256 + i ≡ i = omega arith in
+    let b : m ≡ m + 8 * 0 = omega arith in
+    ap (λ (a : ℕ). getD t a 0) j
+    ∙ sym (getD-take 256 t i 0 g)
+    ∙ grown-at p m 8 x (take 256 t) e y (and-left (grown p 8 x (take 256 t)) (rows p n (run p 8 x) (drop 256 t)) o) i g
+    ∙ ap (λ (a : ℕ). clocks p a i) b
+rows-at p m (suc n) x t e o (suc k) i f w g =
+    let j : suc k * 256 + i ≡ 256 + (k * 256 + i) = omega arith in
+    let b : m + 8 + 8 * k ≡ m + 8 * suc k = omega arith in
+    let v : 256 * n ≤ length (drop 256 t) = rw length-drop (omega (arith, mul-suc 256 n)) in
+    ap (λ (a : ℕ). getD t a 0) j
+    ∙ sym (getD-drop 256 t (k * 256 + i) 0)
+    ∙ rows-at p (m + 8) n (run p 8 x) (drop 256 t) (later p m 8 256 e) (and-right (grown p 8 x (take 256 t)) (rows p n (run p 8 x) (drop 256 t)) o) k i (le-of-suc-le-suc f) v g
+    ∙ ap (λ (a : ℕ). clocks p a i) b
 
 -- a table that passes the test is right
-pub right : {p : ℕ} {t : List ℕ} (more rest : List (List ℕ)) → length more ≡ 24 → length rest ≡ 8 → T (eqb (length t) 2048) → T (lead p powers more rest t) → Slices p t
-right {p} {t} more rest a b z o =
+pub right : {p : ℕ} {t : List ℕ} → T (eqb (length t) 2048) → T (rows p 8 (run p 200 256) t) → Slices p t
+right {p} {t} z o =
     record {
       at = λ k x f g.
           let l : length t ≡ 2048 = eqb→eq (length t) 2048 z in
-          let n : 0 + 8 * length more + 8 * (k + 1) ≡ 8 * (k + 25) = omega arith in
-          lead-at p 0 powers more rest t refl (powers-are p) o k x (rw b f) (omega arith) g ∙ ap (λ (j : ℕ). clocks p j x) n;
+          let n : 200 + 8 * k ≡ 8 * (k + 25) = omega arith in
+          rows-at p 200 8 (run p 200 256) t (run-is p 200 256) o k x f (omega arith) g ∙ ap (λ (j : ℕ). clocks p j x) n;
     }

@@ -28,7 +28,7 @@ fn closed_step(t: Table, link: u8, out: &mut [i64]) -> DropStep
     ensures { λ r. ⌜ (r .answer ≡ dropFields (closedOf t link (now (out .entry)) .answer)) × (r .table ≡ closedOf t link (now (out .entry)) .table)
         × (now (out .exit) ≡ closedSliceOf t link (now (out .entry))) ⌝ }
 {
-    let d = inflight::closed(t, link, out);
+    let d = inflight_drop::closed(t, link, out);
     let after = d.table;
     let answer = d.answer;
     DropStep {
@@ -41,7 +41,7 @@ fn lost_step(t: Table, publisher: u8, out: &mut [i64]) -> DropStep
     ensures { λ r. ⌜ (r .answer ≡ dropFields (lostOf t publisher (now (out .entry)) .answer)) × (r .table ≡ lostOf t publisher (now (out .entry)) .table)
         × (now (out .exit) ≡ lostSliceOf t publisher (now (out .entry))) ⌝ }
 {
-    let d = inflight::lost(t, publisher, out);
+    let d = inflight_drop::lost(t, publisher, out);
     let after = d.table;
     let answer = d.answer;
     DropStep {

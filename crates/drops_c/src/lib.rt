@@ -1,5 +1,5 @@
 // The table of requests in flight for C: the calls that free many requests, a closed link and a lost publisher. Each exported
-// function wraps one call of the crate `inflight` and has its contract; the other calls are in the crate `table_c`.
+// function wraps one call of the crate `inflight_drop` and has its contract; the other calls are in the crates `ask_c` and `take_c`.
 //
 // The caller keeps the table and lends it, and the slice for the other ends: a call updates both where they stand,
 // allocates nothing and decides nothing. `RelayDropped` is the answer.

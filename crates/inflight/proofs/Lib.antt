@@ -2,4 +2,3 @@
 pub mod NumberLaws
 pub mod MatchLaws
 pub mod AskLaws
-pub mod TakeLaws

@@ -1,11 +1,10 @@
--- Laws on signed numbers: when two are the same, and what the number after one is.
+-- Laws on signed numbers: when two are the same.
 -- Assumes nothing.
 use mathlib.Core.Path.{_≡_, refl, sym, ap, _∙_}
-use Prim.Native.Nat.{ℕ, zero, suc, _+_, _<_, _^_}
-use native.Mathlib.Omega.{arith}
+use Prim.Native.Nat.{ℕ}
 use mathlib.Core.Bool.{Bool, true, false}
 use lib.Dec.{eqb}
-use lib.IntN.{ℤ, pos, negsuc, _+ℤ_, +ℤ-one}
+use lib.IntN.{ℤ, pos, negsuc}
 use mir.Syntax.{w64}
 use mir.Val.{SFits, ofZ, toZ}
 use mir.Facts.{toZ-ofZ}
@@ -41,24 +40,3 @@ bits-same a b p q = go (eqb (ofZ w64 a) (ofZ w64 b)) refl
     go : (t : Bool) → eqb (ofZ w64 a) (ofZ w64 b) ≡ t → eqb (ofZ w64 a) (ofZ w64 b) ≡ same a b
     go true e = e ∙ sym (eq-same a b (sym (toZ-ofZ p) ∙ ap (toZ w64) (eqb-true (ofZ w64 a) (ofZ w64 b) e) ∙ toZ-ofZ q))
     go false e = e ∙ sym (ne-same a b (λ h. eqb-false (ofZ w64 a) (ofZ w64 b) e (ap (ofZ w64) h)))
-
--- a number that is not the largest has a next one
-pub next-fits : (z : ℤ) → SFits w64 z → (z ≡ pos 9223372036854775807 → ⊥) → SFits w64 (z +ℤ pos 1)
-next-fits (pos n) p h = record { sfits = small n (p .sfits) (λ e. h (ap pos e)) }
-  where
-    small : (n : ℕ) → n < 2 ^ 63 → (n ≡ 9223372036854775807 → ⊥) → n + 1 < 2 ^ 63
-    small n q g = omega (arith, g)
-next-fits (negsuc zero) p h = record { sfits = omega arith }
-next-fits (negsuc (suc n)) p h =
-    rw (+ℤ-one (negsuc (suc n))) (record { sfits = down n (p .sfits) })
-  where
-    down : (n : ℕ) → suc n < 2 ^ 63 → n < 2 ^ 63
-    down n q = omega arith
-
--- a number whose bits are those of the largest is the largest
-pub largest : (z : ℤ) → SFits w64 z → ofZ w64 z ≡ 9223372036854775807 → z ≡ pos 9223372036854775807
-largest z p e = sym (toZ-ofZ p) ∙ ap (toZ w64) e
-
--- a number below 2 ^ 63 is its own bits
-pub small : (n : ℕ) → n < 256 → toZ w64 n ≡ pos n
-small n h = toZ-ofZ {w = w64} {z = pos n} (record { sfits = omega arith })

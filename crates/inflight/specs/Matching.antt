@@ -12,8 +12,6 @@ use Rattle.inflight.specs.declared.PublisherNumber.{PublisherNumber}
 use Rattle.inflight.specs.declared.Request.{Request}
 use Rattle.inflight.specs.declared.Key.{Key}
 use Rattle.inflight.specs.declared.Key.the-variants.{Reply, Cancel, Closed, Lost}
-use Rattle.inflight.specs.declared.Found.{Found}
-use Rattle.inflight.specs.declared.Found.the-variants.{At, Nothing}
 
 -- what stands in a place of a table that was never used
 abbrev pub blank : Request
@@ -35,11 +33,6 @@ matching k (e ∷ es) = pick (matches k e) (e ∷ matching k es) (matching k es)
 unfoldable pub without : Key → List Request → List Request
 without k [] = []
 without k (e ∷ es) = pick (matches k e) (without k es) (e ∷ without k es)
-
--- the oldest of some requests
-abbrev pub oldest : List Request → Found
-oldest [] = Nothing
-oldest (e ∷ es) = At e
 
 -- "a load is how many entries a publisher has"
 abbrev pub load : List Request → ℕ → ℕ

@@ -2,22 +2,21 @@
 -- stored back over the table's places.
 -- Assumes nothing.
 use mathlib.Core.Path.{_≡_}
-use Prim.Native.Nat.{ℕ, _+_, _≤_, _<_}
+use Prim.Native.Nat.{ℕ, _≤_}
 use mathlib.Core.Bool.{Bool}
 use mathlib.Core.List.{List, _++_}
 use lib.Dec.{eqb, leb}
 use lib.IntN.{ℤ, pos}
 use lib.Signed.{ltZ}
-use lib.ListN.{length, take, drop, getD, replicate}
+use lib.ListN.{length, take, drop, replicate}
 use Rattle.wire.specs.Choice.{pick}
-use Rattle.inflight.specs.Matching.{load, blank}
+use Rattle.inflight.specs.Matching.{blank}
 use Rattle.inflight.specs.Model.{Model}
 use Rattle.inflight.specs.Model as M
 use Rattle.inflight.specs.declared.FrontNumber.{FrontNumber}
 use Rattle.inflight.specs.declared.PublisherNumber.{PublisherNumber}
 use Rattle.inflight.specs.declared.Request.{Request}
 use Rattle.inflight.specs.declared.Table.{Table}
-use Rattle.inflight.specs.declared.Loads.{Loads}
 use Rattle.inflight.specs.declared.Key.{Key}
 use Rattle.inflight.specs.declared.Key.the-variants.{Reply, Cancel, Closed, Lost}
 use Rattle.inflight.specs.declared.Started.{Started}
@@ -47,11 +46,6 @@ pub record Sized (t : Table) (n : ℕ) : Type 0 where
   pub front : take n (t .requests) ≡ inFlight t
   pub places : length (t .requests) ≡ 64
   pub eight : length (t .next) ≡ 8
-
--- the eight loads of some requests
-pub record Loaded (es : List Request) (l : Loads) : Type 0 where
-  pub eight : length (l .of) ≡ 8
-  pub each : (q : ℕ) → q < 8 → getD (l .of) q 0 ≡ load es q
 
 -- a table with no request, whose publishers' next number is n
 unfoldable pub emptyTable : PublisherNumber → Table

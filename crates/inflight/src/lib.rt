@@ -1,20 +1,19 @@
 // Requests in flight (document 01: the ticket table): which front link asked which publisher, under which numbers.
 // It never opens a socket, reads a clock or allocates: a table goes in by value and comes back with the answer.
-// `Table` is the state, `Request` one request in flight; `fresh` makes a table, and `ask`, `reply`, `cancel`, `closed` and `lost` are its calls.
-// Every call is total: a table that no call has made, garbage included, gets the answer that its definition gives (specs/Tables.antt).
-// What the calls do is document 01's book, specs/Model.antt, and nothing else.
-mod calls;
-mod capacity;
-mod drops;
-mod numbering;
+// `Table` is the state, `Request` one request in flight; `fresh` makes a table, and a `Key` names requests to count or remove.
+// The calls stand above it: `ask` in crate `inflight_ask`, `reply` and `cancel` in `inflight_take`, `closed` and `lost` in `inflight_drop`.
+// Every call is total: a table that no call has made, garbage included, gets the answer that its definition gives (specs/Tables.antt),
+// which is document 01's book, specs/Model.antt, and nothing else.
 mod requests;
+mod start;
 
-pub use calls::ask;
-pub use calls::cancel;
-pub use calls::fresh;
-pub use calls::reply;
-pub use drops::closed;
-pub use drops::lost;
+pub use requests::count_matching;
+pub use requests::key_matches;
+pub use requests::remove_matching;
+pub use requests::same_front;
+pub use requests::same_number;
+pub use requests::size;
+pub use start::fresh;
 
 // A front number: it belongs to a front link.
 #[repr(C)]
@@ -27,18 +26,18 @@ pub struct PublisherNumber(pub i64);
 // A request in flight (document 01: a ticket, an entry of the book).
 #[repr(C)]
 pub struct Request {
-    link: u8,
-    front: FrontNumber,
-    publisher: u8,
-    number: PublisherNumber,
+    pub link: u8,
+    pub front: FrontNumber,
+    pub publisher: u8,
+    pub number: PublisherNumber,
 }
 
 // The table: its first `count` requests are in flight, oldest accepted first; `next` is the number after each publisher's last one.
 #[repr(C)]
 pub struct Table {
-    requests: [Request; 64],
-    count: usize,
-    next: [PublisherNumber; 8],
+    pub requests: [Request; 64],
+    pub count: usize,
+    pub next: [PublisherNumber; 8],
 }
 
 // What a call names requests by: publisher and number, link and number, link, publisher.
@@ -47,17 +46,6 @@ pub enum Key {
     Cancel(u8, FrontNumber),
     Closed(u8),
     Lost(u8),
-}
-
-// The load of each of the eight publishers.
-pub struct Loads {
-    of: [u8; 8],
-}
-
-// A request, or none.
-pub enum Found {
-    At(Request),
-    Nothing,
 }
 
 // An ask is accepted with a publisher number, or refused.

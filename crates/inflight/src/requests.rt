@@ -1,5 +1,4 @@
 // The requests in flight of a table: which of them a key matches, counted, found and removed.
-use super::Found;
 use super::FrontNumber;
 use super::Key;
 use super::PublisherNumber;
@@ -9,24 +8,24 @@ ghost use mathlib.Core.Path.{_≡_};
 ghost use Prim.Native.Nat.{_≤_};
 ghost use lib.ListN.{length};
 ghost use Rattle.inflight.specs.Numbers.{same};
-ghost use Rattle.inflight.specs.Matching.{matches, matching, oldest};
+ghost use Rattle.inflight.specs.Matching.{matches, matching};
 ghost use Rattle.inflight.specs.Model.{remove};
 ghost use Rattle.inflight.specs.Tables.{inFlight, modelOf, store, Sized};
 
-pub(crate) fn same_front(a: FrontNumber, b: FrontNumber) -> bool
+pub fn same_front(a: FrontNumber, b: FrontNumber) -> bool
     ensures { λ r. ⌜ r ≡ same (a .0) (b .0) ⌝ }
 {
     a.0 == b.0
 }
 
-pub(crate) fn same_number(a: PublisherNumber, b: PublisherNumber) -> bool
-    ensures { λ r. ⌜ r ≡ same (a .0) (b .0) ⌝ }
+pub fn same_number(m: PublisherNumber, n: PublisherNumber) -> bool
+    ensures { λ r. ⌜ r ≡ same (m .0) (n .0) ⌝ }
 {
-    a.0 == b.0
+    m.0 == n.0
 }
 
 // Whether a key matches a request.
-pub(crate) fn key_matches(k: Key, e: Request) -> bool
+pub fn key_matches(k: Key, e: Request) -> bool
     ensures { λ r. ⌜ r ≡ matches k e ⌝ }
 {
     match k {
@@ -44,14 +43,14 @@ pub(crate) fn key_matches(k: Key, e: Request) -> bool
 }
 
 // How many requests are in flight in a table.
-pub(crate) fn size(t: Table) -> usize
+pub fn size(t: Table) -> usize
     ensures { λ r. ⌜ Sized t r ⌝ }
 {
     if t.count < 64 { t.count } else { 64 }
 }
 
 // How many requests a key matches.
-pub(crate) fn count_matching(t: Table, k: Key) -> usize
+pub fn count_matching(t: Table, k: Key) -> usize
     ensures { λ r. ⌜ (r ≡ length (matching k (inFlight t))) × (r ≤ 64) ⌝ }
 {
     let n = size(t);
@@ -67,24 +66,8 @@ pub(crate) fn count_matching(t: Table, k: Key) -> usize
     sum
 }
 
-// The oldest request that a key matches.
-pub(crate) fn first_matching(t: Table, k: Key) -> Found
-    ensures { λ r. ⌜ r ≡ oldest (matching k (inFlight t)) ⌝ }
-{
-    let n = size(t);
-    let mut i: usize = 0;
-    while i < n {
-        let e = t.requests[i];
-        if key_matches(k, e) {
-            return Found::At(e);
-        }
-        i += 1;
-    }
-    Found::Nothing
-}
-
 // The table without the requests that a key matches.
-pub(crate) fn remove_matching(t: Table, k: Key) -> Table
+pub fn remove_matching(t: Table, k: Key) -> Table
     ensures { λ r. ⌜ r ≡ store t (remove (modelOf t) k) ⌝ }
 {
     let n = size(t);

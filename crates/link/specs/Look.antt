@@ -6,8 +6,8 @@ use mathlib.Core.List.{List, [], _∷_}
 use Rattle.wire.specs.Choice.{first}
 use Rattle.link_state.specs.declared.Link.{Link}
 use Rattle.link_state.specs.Turn.{maySend}
-use Rattle.packet.specs.Head.{refuses}
-use Rattle.packet.specs.Frame.{frameOf}
+use Rattle.packet.specs.Allowed.{refuses}
+use Rattle.packet_in.specs.Frame.{frameOf}
 use Rattle.packet.specs.declared.Arrival.{Arrival}
 use Rattle.packet.specs.declared.Arrival.the-variants.{Refused}
 

@@ -7,7 +7,7 @@ use Rattle.wire.specs.Bytes.{within}
 use Rattle.wire.specs.Choice.{first}
 use Rattle.link_state.specs.declared.Link.{Link}
 use Rattle.link_state.specs.declared.Moment.{Moment}
-use Rattle.packet.specs.Head.{refuses}
+use Rattle.packet.specs.Allowed.{refuses}
 use Rattle.packet.specs.declared.Arrival.{Arrival}
 use Rattle.packet.specs.declared.Arrival.the-variants.{Incomplete, Packet, Refused}
 use Rattle.opening.specs.Nonce.{nonceRefusal}

@@ -2,7 +2,7 @@
 //
 // A caller lends bytes and the moment, and gets an answer; no socket, clock or random source is touched. `receive_step`
 // takes a link by value and hands it back beside the answer; `receive` is the same over a link that is lent and updated
-// where it stands. Framing is in the crate `packet`, the bodies of the opening in `opening`, sending in `link_out`.
+// where it stands. Framing is in the crate `packet_in`, the bodies of the opening in `opening`, sending in `send`.
 mod keep_alive;
 mod next;
 mod step;

@@ -2,7 +2,7 @@
 use link_state::Link;
 use link_state::may_send;
 use packet::Arrival;
-use packet::frame;
+use packet_in::frame;
 use refusal::LINK_CLOSED;
 use refusal::NOT_OUR_TURN;
 ghost use mathlib.Core.Path.{_≡_};

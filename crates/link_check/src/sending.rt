@@ -8,17 +8,17 @@ use crate::space::fill;
 use crate::space::front;
 use crate::space::least;
 use crate::space::size;
+use handshake_out::NetPid;
 use invoke::Actor;
 use invoke::Timeout;
 use libc::STDIN_FILENO;
-use link_out::NetPid;
-use link_out::Step;
 use link_state::Link;
 use link_state::Moment;
 use message_out::Outgoing;
 use packet_out::Sent;
 use send::ToSend;
 use send::send_step;
+use send_rules::Step;
 
 fn actor_of(given: u8, actor: i64) -> Actor {
     if given == 1 {

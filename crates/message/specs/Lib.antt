@@ -1,4 +1,3 @@
 -- Definitions of crate message: one message.
 pub mod PartOf
 pub mod ReadMessage
-pub mod WriteShort

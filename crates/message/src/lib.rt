@@ -1,12 +1,11 @@
-// One RPC message: a packet's type and body read into its meaning, for the side that reads; and the short writers.
+// One RPC message: a packet's type and body read into its meaning, for the side that reads.
 //
 // Nothing here looks at a packet's length, number or checksum, and reading copies no byte: a payload or text is named
 // by its place, and `part_of` hands it back. The types that matter are `Message` and `Side` (of the crate `header`).
-// The longer writers are in the crates `invoke_out` and `result_out`.
+// The writers are in the crates `invoke_out`, `result_out` and `cancel_out`.
 mod read;
 mod slice;
 mod types;
-mod write;
 
 use invoke::Invoke;
 pub use read::read_message;
@@ -18,8 +17,6 @@ pub use types::INVOKE;
 pub use types::OLD_ERROR;
 pub use types::RESULT;
 pub use types::SERVER_FIN;
-pub use write::write_cancel;
-pub use write::write_fin;
 
 // What a body means, or a refusal's number.
 pub enum Message {

@@ -163,8 +163,8 @@ fn write_kind(d: &mut [u8], head: &[u8], s: &[u8]) -> Written {
             let tl2 = wire::u8_at(head, 23) != 0;
             invoke_out::write_invoke(d, number, actor, timeout, tl2, s)
         }
-        1 => message::write_cancel(d, number),
-        2 | 3 => message::write_fin(d),
+        1 => cancel_out::write_cancel(d, number),
+        2 | 3 => cancel_out::write_fin(d),
         4 => result_out::write_payload(d, number, s),
         _ => result_out::write_error(d, number, wire::i32_at(head, 24), s),
     }

@@ -29,7 +29,7 @@ use Rattle.result_out.specs.WriteResult.{payloadBytes, payloadAnswer, errorByte
 use Rattle.result_out.proofs.WriteLaws.{error-length}
 use Rattle.message.specs.ReadMessage.{ofInvoke, ofReply, readCancel, toServer, toClient, readMessage}
 use Rattle.message.specs.PartOf.{answerPart, partOf}
-use Rattle.message.specs.WriteShort.{cancelBytes, cancelAnswer, finBytes, finAnswer}
+use Rattle.cancel_out.specs.WriteShort.{cancelBytes, cancelAnswer, finBytes, finAnswer}
 use Rattle.message.specs.declared.Message.{Message}
 use Rattle.message.specs.declared.Message.the-variants as M
 use Rattle.message_laws.specs.Forms.{ReqError, formBytes, formMark}

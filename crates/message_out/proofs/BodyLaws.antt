@@ -14,7 +14,7 @@ use Rattle.invoke.specs.declared.Actor as A
 use Rattle.invoke.specs.declared.Timeout as T
 use Rattle.invoke_out.specs.WriteInvoke.{invokeBytes, invokeAnswer}
 use Rattle.result_out.specs.WriteResult.{payloadBytes, payloadAnswer, errorBytes, errorAnswer}
-use Rattle.message.specs.WriteShort.{cancelBytes, cancelAnswer}
+use Rattle.cancel_out.specs.WriteShort.{cancelBytes, cancelAnswer}
 use Rattle.message_out.specs.Outgoing.{bodyOf, numberZero, payloadMisread}
 use Rattle.message_out.specs.Parts.{bodyAnswer}
 use Rattle.message_out.specs.declared.Outgoing as O

@@ -10,7 +10,7 @@ use lib.Seq.{sets}
 use lib.Dec.{ltb}
 use Rattle.wire.specs.Choice.{pick}
 use Rattle.link_state.specs.declared.Link.{Link}
-use Rattle.packet.specs.Head.{refuses}
+use Rattle.packet.specs.Allowed.{refuses}
 use Rattle.body.specs.declared.Written as W
 use Rattle.packet_out.specs.Size.{sizeOf, fitsOf}
 use Rattle.packet_out.specs.Packet.{sealedOf}

@@ -6,7 +6,7 @@ use mathlib.Core.List.{List, [], _∷_}
 use lib.ListN.{length}
 use Rattle.wire.specs.Choice.{first}
 use Rattle.link_state.specs.declared.Link.{Link}
-use Rattle.packet.specs.Head.{refuses}
+use Rattle.packet.specs.Allowed.{refuses}
 use Rattle.packet_out.specs.Size.{fitsOf}
 use Rattle.packet_out.specs.declared.Sent.{Sent}
 use Rattle.packet_out.specs.declared.Sent.the-variants.{Refused}

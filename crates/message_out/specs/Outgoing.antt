@@ -10,7 +10,7 @@ use Rattle.header.specs.Headers.{readsAsHeader}
 use Rattle.header.specs.declared.Side.the-variants.{Client}
 use Rattle.invoke_out.specs.WriteInvoke.{invokeBytes, payloadRefused}
 use Rattle.result_out.specs.WriteResult.{payloadBytes, errorBytes}
-use Rattle.message.specs.WriteShort.{cancelBytes}
+use Rattle.cancel_out.specs.WriteShort.{cancelBytes}
 use Rattle.message_out.specs.declared.Outgoing as O
 use Rattle.message_out.specs.declared.Outgoing.the-variants.{Invoke, Cancel, ClientFin, Payload, Error, ServerFin, Unknown}
 

@@ -8,7 +8,7 @@ use lib.Seq.{sets}
 use lib.Dec.{ltb}
 use Rattle.wire.specs.Choice.{first}
 use Rattle.link_state.specs.declared.Link.{Link}
-use Rattle.packet.specs.Head.{refuses}
+use Rattle.packet.specs.Allowed.{refuses}
 use Rattle.body.specs.declared.Written as W
 use Rattle.send_rules.specs.Control.{sendRefusal}
 use Rattle.message_out.specs.Outgoing.{kindOf, bodyOf, wrongWay, numberZero, payloadMisread}

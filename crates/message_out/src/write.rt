@@ -1,9 +1,9 @@
 // The body of a message, at the front of what is lent for it.
 use crate::Outgoing;
 use body::Written;
+use cancel_out::write_cancel;
+use cancel_out::write_fin;
 use invoke_out::write_invoke;
-use message::write_cancel;
-use message::write_fin;
 use result_out::write_error;
 use result_out::write_payload;
 ghost use mathlib.Core.Path.{_≡_};

@@ -1,5 +1,4 @@
--- Definitions of crate packet: framing.
+-- Definitions of crate packet: what both directions share, and the body of an answer.
 pub mod Sum
-pub mod Head
-pub mod Frame
+pub mod Allowed
 pub mod Body

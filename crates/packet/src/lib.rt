@@ -1,16 +1,14 @@
-// Framing: what stands at the front of lent bytes, from a packet's length to its checksum, and where its body is.
+// Packets, as either direction needs them: which types may go over a link now, the checksum in use, and the answer of a
+// receive with the body that it names.
 //
 // Nothing here reads a body or changes a link, and no byte is copied: an answer names the body by its place, and `body`
-// hands it back. The type that matters is `Arrival`. Writing packets is in the crate `packet_out`, and what a link makes
-// of a packet in the crate `link`.
-mod framing;
-mod head;
+// hands it back. The type that matters is `Arrival`. Reading packets is in the crate `packet_in`, writing in `packet_out`.
+mod allow;
 mod slice;
 mod sum;
 mod types;
 
-pub use framing::frame;
-pub use head::allowed;
+pub use allow::allowed;
 pub use slice::body;
 pub use sum::checksum_of;
 pub use types::HANDSHAKE;

@@ -12,7 +12,8 @@ use Rattle.wire.specs.Bytes.{le, part, bytes}
 use Rattle.wire.proofs.ByteLaws.{length-bytes, le-bytes}
 use Rattle.link_state.specs.declared.Link.{Link}
 use Rattle.link_state.specs.declared.Moment.{Moment}
-use Rattle.packet.specs.Head.{lengthRefusal, allowedOf}
+use Rattle.packet.specs.Allowed.{allowedOf}
+use Rattle.packet_in.specs.Head.{lengthRefusal}
 use Rattle.packet.specs.declared.Arrival.the-variants.{Packet}
 use Rattle.packet_out.specs.Packet.{packetOf}
 use Rattle.link.specs.KeepAlive.{pingRefusal, pongRefusal, awaitsAfter, owesAfter, owedAfter}

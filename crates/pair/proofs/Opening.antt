@@ -17,7 +17,8 @@ use Rattle.link_state.specs.declared.Moment.{Moment}
 use Rattle.link_state.specs.SetUp.{freshOf}
 use Rattle.link_state.specs.Turn.{maySend, stageAfter}
 use Rattle.packet.specs.Sum.{castagnoliOf}
-use Rattle.packet.specs.Head.{lengthRefusal, allowedOf}
+use Rattle.packet.specs.Allowed.{allowedOf}
+use Rattle.packet_in.specs.Head.{lengthRefusal}
 use Rattle.packet.specs.declared.Arrival.the-variants.{Packet}
 use Rattle.packet_out.specs.Size.{sizeOf, fitsOf}
 use Rattle.packet_out.specs.declared.Sent.the-variants.{Written}
@@ -29,11 +30,12 @@ use Rattle.link.specs.KeepAlive.{awaitsAfter, owesAfter, owedAfter}
 use Rattle.link.specs.Next.{agreedAfter, versionAfter, afterOf}
 use Rattle.link.specs.Receive.{bodyRefusal, gives, receiveOf}
 use Rattle.send_rules.specs.Control.{sendRefusal, controlAnswer, stepBy, controlStep, controlBuffer}
-use Rattle.link_out.specs.Nonce.{versionOf, nonceHead, pointOf, nonceBody, nonceStep, nonceBuffer}
-use Rattle.link_out.specs.Handshake.{flagsOf, pidBytes, handshakeBody, handshakeStep, handshakeBuffer}
+use Rattle.nonce_out.specs.Nonce.{versionOf, nonceHead, pointOf, nonceBody, nonceStep, nonceBuffer}
+use Rattle.handshake_out.specs.Handshake.{flagsOf, pidBytes, handshakeBody, handshakeStep, handshakeBuffer}
 use Rattle.send_rules.specs.Sent.{awaitsSent, awaitedSent, owesSent, sentOf}
-use Rattle.link_out.specs.declared.NetPid.{NetPid}
-use Rattle.link_out.proofs.BodyLaws.{length-nonce, length-handshake}
+use Rattle.handshake_out.specs.declared.NetPid.{NetPid}
+use Rattle.nonce_out.proofs.BodyLaws.{length-nonce}
+use Rattle.handshake_out.proofs.BodyLaws.{length-handshake}
 use Rattle.pair.specs.Awaits.{Awaits}
 use Rattle.pair.specs.Opens.{during, Caller, Able, Opened, opens}
 use Rattle.pair.proofs.SumLaws.{small-append, small-bytes}

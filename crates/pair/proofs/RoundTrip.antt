@@ -16,8 +16,9 @@ use Rattle.crc.specs.declared.Polynomial.the-variants.{Ieee, Castagnoli}
 use Rattle.link_state.specs.declared.Link.{Link}
 use Rattle.link_state.specs.declared.Moment.{Moment}
 use Rattle.packet.specs.Sum.{castagnoliOf, sumOf}
-use Rattle.packet.specs.Head.{lengthRefusal, allowedOf, headRefusal}
-use Rattle.packet.specs.Frame.{wholeOf, frameOf}
+use Rattle.packet.specs.Allowed.{allowedOf}
+use Rattle.packet_in.specs.Head.{lengthRefusal, headRefusal}
+use Rattle.packet_in.specs.Frame.{wholeOf, frameOf}
 use Rattle.packet.specs.declared.Arrival.the-variants.{Packet}
 use Rattle.packet_out.specs.Packet.{headOf, frontOf, packetOf}
 use Rattle.packet_out.proofs.PacketLaws.{length-front, length-packet}

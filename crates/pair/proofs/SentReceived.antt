@@ -8,7 +8,8 @@ use lib.ListN.{length, drop}
 use Rattle.wire.proofs.ByteLaws.{Small}
 use Rattle.link_state.specs.declared.Link.{Link}
 use Rattle.link_state.specs.declared.Moment.{Moment}
-use Rattle.packet.specs.Head.{lengthRefusal, allowedOf}
+use Rattle.packet.specs.Allowed.{allowedOf}
+use Rattle.packet_in.specs.Head.{lengthRefusal}
 use Rattle.packet.specs.declared.Arrival.the-variants.{Packet}
 use Rattle.packet_out.specs.Packet.{packetOf}
 use Rattle.packet_out.specs.declared.Sent.the-variants.{Written}

@@ -10,7 +10,7 @@ use Rattle.link_state.specs.declared.Link.{Link}
 use Rattle.link_state.specs.declared.Moment.{Moment}
 use Rattle.link_state.specs.Turn.{stageAfter}
 use Rattle.packet.specs.Sum.{castagnoliOf}
-use Rattle.packet.specs.Head.{allowedOf}
+use Rattle.packet.specs.Allowed.{allowedOf}
 use Rattle.link.specs.Look.{turnRefusal}
 use Rattle.link.specs.Next.{agreedAfter, afterOf}
 use Rattle.send_rules.specs.Sent.{sentOf}

@@ -12,9 +12,9 @@ use Rattle.link_state.specs.declared.Moment.{Moment}
 use Rattle.packet.specs.declared.Arrival.{Arrival}
 use Rattle.packet_out.specs.declared.Sent.{Sent}
 use Rattle.link.specs.Receive.{receiveOf}
-use Rattle.link_out.specs.Nonce.{nonceStep, nonceBuffer}
-use Rattle.link_out.specs.Handshake.{handshakeStep, handshakeBuffer}
-use Rattle.link_out.specs.declared.NetPid.{NetPid}
+use Rattle.nonce_out.specs.Nonce.{nonceStep, nonceBuffer}
+use Rattle.handshake_out.specs.Handshake.{handshakeStep, handshakeBuffer}
+use Rattle.handshake_out.specs.declared.NetPid.{NetPid}
 
 -- a link somewhere in its opening, with no Ping
 abbrev pub during : Settings → Bool → ℕ → ℕ → ℕ → ℕ → Link

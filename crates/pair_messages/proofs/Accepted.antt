@@ -9,7 +9,7 @@ use lib.ListN.{length}
 use lib.Dec.{ltb}
 use Rattle.wire.specs.Choice.{pick}
 use Rattle.link_state.specs.declared.Link.{Link}
-use Rattle.packet.specs.Head.{refuses}
+use Rattle.packet.specs.Allowed.{refuses}
 use Rattle.packet_out.specs.Size.{sizeOf, fitsOf}
 use Rattle.packet_out.specs.declared.Sent.the-variants.{Written, Refused}
 use Rattle.send_rules.specs.Control.{sendRefusal}

@@ -17,7 +17,7 @@ use Rattle.result_out.specs.WriteResult.{errorBytes, errorSize}
 use Rattle.result_out.proofs.WriteLaws.{error-length}
 use Rattle.message.specs.ReadMessage.{ofInvoke, ofReply, readCancel, toServer, toClient, readMessage}
 use Rattle.message.specs.PartOf.{answerPart, partOf}
-use Rattle.message.specs.WriteShort.{cancelBytes}
+use Rattle.cancel_out.specs.WriteShort.{cancelBytes}
 use Rattle.message_laws.specs.Forms.{ReqError, formBytes, formMark}
 use Rattle.message_laws.specs.RoundTrip.{ReadsAs}
 use Rattle.message_laws.proofs.InvokeBack.{read-back, invoke-part}

@@ -17,7 +17,7 @@ use Rattle.invoke.specs.declared.Actor as A
 use Rattle.invoke.specs.declared.Timeout as T
 use Rattle.invoke_out.specs.WriteInvoke.{headerBytes, markerBytes, invokeBytes}
 use Rattle.result_out.specs.WriteResult.{payloadBytes, errorBytes}
-use Rattle.message.specs.WriteShort.{cancelBytes}
+use Rattle.cancel_out.specs.WriteShort.{cancelBytes}
 use Rattle.message_out.specs.Outgoing.{bodyOf}
 use Rattle.message_out.specs.declared.Outgoing.{Outgoing}
 use Rattle.message_out.specs.declared.Outgoing.the-variants.{Invoke, Cancel, ClientFin, Payload, Error, ServerFin, Unknown}

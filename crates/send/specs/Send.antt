@@ -4,9 +4,9 @@ use Prim.Native.Nat.{ℕ}
 use mathlib.Core.List.{List}
 use Rattle.link_state.specs.declared.Link.{Link}
 use Rattle.link_state.specs.declared.Moment.{Moment}
-use Rattle.link_out.specs.Nonce.{nonceStep, nonceBuffer}
-use Rattle.link_out.specs.Handshake.{handshakeStep, handshakeBuffer}
-use Rattle.link_out.specs.KeepAlive.{pingStep, pingBuffer, pongStep, pongBuffer}
+use Rattle.nonce_out.specs.Nonce.{nonceStep, nonceBuffer}
+use Rattle.handshake_out.specs.Handshake.{handshakeStep, handshakeBuffer}
+use Rattle.keep_alive_out.specs.KeepAlive.{pingStep, pingBuffer, pongStep, pongBuffer}
 use Rattle.send_rules.specs.declared.Step.{Step}
 use Rattle.message_out.specs.MessageStep.{messageStep, messageBuffer}
 use Rattle.send.specs.declared.ToSend.{ToSend}

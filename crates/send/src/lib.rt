@@ -1,11 +1,11 @@
 // Sending on a link: one call for everything that a link may send.
 //
 // `send_step` takes a link by value and hands it back beside the answer; `send` is the same over a link that is lent and
-// updated where it stands. The caller lends the buffer and the payload, and gives time and random bytes. Nothing here
-// decides or writes a byte itself: that is in the crates `link_out` and `message_out`. The type that matters is `ToSend`.
+// updated where it stands. The caller lends buffer and payload, and gives time and random bytes. Nothing here decides or
+// writes a byte: `nonce_out`, `handshake_out`, `keep_alive_out`, `message_out` do. The type that matters is `ToSend`.
 mod step;
 
-use link_out::NetPid;
+use handshake_out::NetPid;
 use link_state::Link;
 use link_state::Moment;
 use message_out::Outgoing;

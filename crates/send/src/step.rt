@@ -1,13 +1,13 @@
 // The by-value core of send.
 use crate::ToSend;
-use link_out::Step;
-use link_out::handshake_step;
-use link_out::nonce_step;
-use link_out::ping_step;
-use link_out::pong_step;
+use handshake_out::handshake_step;
+use keep_alive_out::ping_step;
+use keep_alive_out::pong_step;
 use link_state::Link;
 use link_state::Moment;
 use message_out::message_step;
+use nonce_out::nonce_step;
+use send_rules::Step;
 ghost use mathlib.Core.Path.{_≡_};
 ghost use lib.ListN.{length};
 ghost use Rattle.send.specs.Send.{sendOf, sendBuffer};

@@ -6,7 +6,7 @@
 mod outgoing;
 mod sending;
 
-use link_out::NetPid;
+use handshake_out::NetPid;
 use link_state::Link;
 pub use sending::relay_send;
 

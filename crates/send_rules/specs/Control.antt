@@ -8,7 +8,7 @@ use lib.Seq.{sets}
 use Rattle.wire.specs.Choice.{first}
 use Rattle.link_state.specs.declared.Link.{Link}
 use Rattle.link_state.specs.Turn.{maySend}
-use Rattle.packet.specs.Head.{allowedOf, refuses}
+use Rattle.packet.specs.Allowed.{allowedOf, refuses}
 use Rattle.packet_out.specs.Size.{fitsOf}
 use Rattle.packet_out.specs.Packet.{packetOf}
 use Rattle.packet_out.specs.declared.Sent.{Sent}

@@ -1,8 +1,8 @@
 // Rules that every send shares, whatever its body: which refusals come before the body, and the link after a packet.
 //
 // Nothing here writes a byte or closes a link. `control_answer` is the whole answer for a packet of the link itself; a
-// message has refusals of its own between `send_refusal` and the size. The type that matters is `Step`. What a link sends
-// of itself is the crate `link_out`, a message `message_out`.
+// message has refusals of its own between `send_refusal` and the size. The type that matters is `Step`. What each send
+// writes is in the crates `nonce_out`, `handshake_out`, `keep_alive_out` and `message_out`.
 mod allow;
 
 pub use allow::control_answer;

@@ -11,9 +11,9 @@ use lib.ListN.{length, getD}
 use Rattle.wire.specs.Choice.{pick, first}
 use Rattle.inflight.specs.declared.FrontNumber.{FrontNumber}
 use Rattle.inflight.specs.declared.PublisherNumber.{PublisherNumber}
+use Rattle.walk_turn.specs.declared.Event.{Event}
+use Rattle.walk_turn.specs.declared.Event.the-variants.{Ask, Reply, Cancel, Closed, Lost, End, Cut, Unknown}
 use Rattle.walk.specs.Events.{bodySize, bodyOf, eventOf, recordSize, frontNumber, publisherNumber}
-use Rattle.walk.specs.declared.Event.{Event}
-use Rattle.walk.specs.declared.Event.the-variants.{Ask, Reply, Cancel, Closed, Lost, End, Cut, Unknown}
 
 -- the five kinds, by their tests
 kinds : (a b c d e : Bool) (l p : ℕ) (f : FrontNumber) (n : PublisherNumber)

@@ -23,15 +23,16 @@ use Rattle.inflight.specs.declared.DropAnswer.the-variants as D
 use Rattle.inflight.specs.Tables.{askOf, replyOf, cancelOf, closedOf, closedSliceOf, lostOf, lostSliceOf}
 use Rattle.inflight.specs.Calls.{tableHeard}
 use lib.IntN.{ℤ}
+use Rattle.walk_turn.specs.Lines.{askLine, replyLine, cancelLine, droppedLines, refusedLine, callLines, dropLines, line, countOf, askWord, replyWord, cancelWord, closedWord, lostWord}
+use Rattle.walk_turn.specs.Turn.{linesOf, afterEvent, turnOf, lentSlice}
+use Rattle.walk_turn.specs.declared.Event.{Event}
+use Rattle.walk_turn.specs.declared.Event.the-variants.{Ask, Reply, Cancel, Closed, Lost, End, Cut, Unknown}
+use Rattle.walk_turn.specs.declared.Turned.{Turned}
+use Rattle.walk_turn.proofs.LineLaws.{line-most, pair-most, refused-most, drops-most}
+use Rattle.walk_turn.proofs.TurnLaws.{closed-count, lost-count}
 use Rattle.walk.specs.Events.{eventOf, recordSize, waits}
-use Rattle.walk.specs.Lines.{askLine, replyLine, cancelLine, droppedLines, refusedLine, callLines, dropLines, line, countOf, askWord, replyWord, cancelWord, closedWord, lostWord}
-use Rattle.walk.specs.Walk.{linesOf, afterEvent, Outcome, ends, after, walkFrom, walkOf, walkedOf, turnOf, Told, lentSlice}
-use Rattle.walk.specs.declared.Event.{Event}
-use Rattle.walk.specs.declared.Event.the-variants.{Ask, Reply, Cancel, Closed, Lost, End, Cut, Unknown}
-use Rattle.walk.specs.declared.Turned.{Turned}
+use Rattle.walk.specs.Walk.{Outcome, ends, after, walkFrom, walkOf, walkedOf, Told}
 use Rattle.walk.specs.declared.Walked.{Walked}
-use Rattle.walk.proofs.LineLaws.{line-most, pair-most, refused-most, drops-most}
-use Rattle.walk.proofs.TurnLaws.{closed-count, lost-count}
 use Rattle.walk.proofs.EventLaws.{record-fits}
 
 -- ---- the lines of one event are short

@@ -11,8 +11,8 @@ use Rattle.wire.specs.Bytes.{le, part}
 use Rattle.wire.specs.Choice.{first}
 use Rattle.inflight.specs.declared.FrontNumber.{FrontNumber}
 use Rattle.inflight.specs.declared.PublisherNumber.{PublisherNumber}
-use Rattle.walk.specs.declared.Event.{Event}
-use Rattle.walk.specs.declared.Event.the-variants.{Ask, Reply, Cancel, Closed, Lost, End, Cut, Unknown}
+use Rattle.walk_turn.specs.declared.Event.{Event}
+use Rattle.walk_turn.specs.declared.Event.the-variants.{Ask, Reply, Cancel, Closed, Lost, End, Cut, Unknown}
 
 -- "1 ask: link 1, number 8, publisher 1. 2 reply: publisher 1, number 8. 3 cancel: link 1, number 8. 4 closed: link 1. 5 lost: publisher 1":
 -- the length of a kind's body, and 0 for an unknown kind

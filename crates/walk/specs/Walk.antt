@@ -5,47 +5,13 @@ use Prim.Native.Nat.{ℕ, zero, suc, _+_, _-_}
 use mathlib.Core.Bool.{Bool, true, false}
 use mathlib.Core.List.{List, [], _∷_, _++_}
 use lib.Dec.{eqb, ltb}
-use lib.IntN.{ℤ, pos}
-use lib.ListN.{length, drop, replicate}
+use lib.ListN.{length, drop}
 use lib.Seq.{sets}
 use Rattle.wire.specs.Choice.{pick}
-use Rattle.inflight.specs.Calls.{Call, ask, reply, cancel, closed, lost, tableHeard, tableAfter}
 use Rattle.inflight.specs.declared.Table.{Table}
+use Rattle.walk_turn.specs.Turn.{linesOf, afterEvent}
 use Rattle.walk.specs.Events.{eventOf, recordSize, waits}
-use Rattle.walk.specs.Lines.{callLines, refusedLine}
-use Rattle.walk.specs.declared.Event.{Event}
-use Rattle.walk.specs.declared.Event.the-variants.{Ask, Reply, Cancel, Closed, Lost, End, Cut, Unknown}
-use Rattle.walk.specs.declared.Turned.{Turned}
 use Rattle.walk.specs.declared.Walked.{Walked}
-
--- the slice that closed and lost are lent: two numbers for each of 64 requests
-abbrev pub lentSlice : List ℤ
-lentSlice = replicate 128 (pos 0)
-
--- the lines of an event: of its call on a table, and `no 35` where there is none
-unfoldable pub linesOf : Table → Event → List ℕ
-linesOf t (Ask l n p) = callLines (ask l n p) (tableHeard t (ask l n p))
-linesOf t (Reply p n) = callLines (reply p n) (tableHeard t (reply p n))
-linesOf t (Cancel l n) = callLines (cancel l n) (tableHeard t (cancel l n))
-linesOf t (Closed l) = callLines (closed l lentSlice) (tableHeard t (closed l lentSlice))
-linesOf t (Lost p) = callLines (lost p lentSlice) (tableHeard t (lost p lentSlice))
-linesOf t End = refusedLine 35
-linesOf t Cut = refusedLine 35
-linesOf t Unknown = refusedLine 35
-
--- the table after an event
-unfoldable pub afterEvent : Table → Event → Table
-afterEvent t (Ask l n p) = tableAfter t (ask l n p)
-afterEvent t (Reply p n) = tableAfter t (reply p n)
-afterEvent t (Cancel l n) = tableAfter t (cancel l n)
-afterEvent t (Closed l) = tableAfter t (closed l lentSlice)
-afterEvent t (Lost p) = tableAfter t (lost p lentSlice)
-afterEvent t End = t
-afterEvent t Cut = t
-afterEvent t Unknown = t
-
-unfoldable pub turnOf : Table → Event → Turned
-turnOf t e = record { table = afterEvent t e; size = length (linesOf t e) }
 
 -- how far a walk comes, and its text
 pub record Outcome : Type 0 where

@@ -1,7 +1,7 @@
 // The event format: a kind byte, then a body whose length the kind fixes.
-use super::Event;
 use inflight::FrontNumber;
 use inflight::PublisherNumber;
+use walk_turn::Event;
 use wire::i64_at;
 ghost use mathlib.Core.Path.{_≡_};
 ghost use lib.ListN.{getD};

@@ -3,9 +3,9 @@ use super::Walked;
 use super::events::event;
 use super::events::must_wait;
 use super::events::record_size;
-use super::turns::turn;
 use inflight::Table;
 use store::copy;
+use walk_turn::turn;
 use wire::left;
 ghost use mathlib.Core.Path.{_≡_};
 ghost use lib.ListN.{length};
@@ -30,25 +30,14 @@ fn walk_with(table: Table, events: &[u8], out: &mut [u8], last: bool, text: &mut
     let mut turns = events.len();
     while 0 < turns {
         turns -= 1;
-        let rest = &events[at..];
-        let e = event(rest);
+        let e = event(&events[at..]);
         if must_wait(e, last) {
-            return Walked {
-                table: t,
-                consumed: at,
-                written: to,
-                stopped: false,
-            };
+            break;
         }
         let r = turn(t, e, text);
         let n = r.size;
         if left(out, to) < n {
-            return Walked {
-                table: t,
-                consumed: at,
-                written: to,
-                stopped: false,
-            };
+            break;
         }
         copy(out, to, &text[..n]);
         to += n;

@@ -10,8 +10,9 @@ use lib.Dec.{eqb, ltb}
 use lib.ListN.{length, drop, length-append}
 use Rattle.wire.specs.Choice.{pick}
 use Rattle.inflight.specs.declared.Table.{Table}
+use Rattle.walk_turn.specs.Turn.{linesOf, afterEvent}
 use Rattle.walk.specs.Events.{eventOf, recordSize, waits}
-use Rattle.walk.specs.Walk.{Outcome, ends, after, walkFrom, walkOf, linesOf, afterEvent}
+use Rattle.walk.specs.Walk.{Outcome, ends, after, walkFrom, walkOf}
 use Rattle.walk.proofs.WalkLaws.{lines-short}
 use Rattle.walk_claims.specs.Bounds.{Bounds}
 use Rattle.walk_claims.proofs.FullText.{positive}

@@ -11,11 +11,12 @@ use lib.ListN.{length, drop, length-append, length-drop}
 use Rattle.wire.specs.Choice.{pick}
 use Rattle.inflight.specs.Calls.{Call, tableRun}
 use Rattle.inflight.specs.declared.Table.{Table}
+use Rattle.walk_turn.specs.Lines.{callLines, refusedLine}
+use Rattle.walk_turn.specs.Turn.{linesOf, afterEvent, lentSlice}
+use Rattle.walk_turn.specs.declared.Event.{Event}
+use Rattle.walk_turn.specs.declared.Event.the-variants.{Ask, Reply, Cancel, Closed, Lost, End, Cut, Unknown}
 use Rattle.walk.specs.Events.{eventOf, recordSize, waits}
-use Rattle.walk.specs.Lines.{callLines, refusedLine}
-use Rattle.walk.specs.Walk.{Outcome, ends, after, walkFrom, walkOf, linesOf, afterEvent, lentSlice}
-use Rattle.walk.specs.declared.Event.{Event}
-use Rattle.walk.specs.declared.Event.the-variants.{Ask, Reply, Cancel, Closed, Lost, End, Cut, Unknown}
+use Rattle.walk.specs.Walk.{Outcome, ends, after, walkFrom, walkOf}
 use Rattle.walk.proofs.EventLaws.{record-fits}
 use Rattle.walk_claims.specs.ProgramText.{callBefore, callsFrom, faultBefore, faultFrom, rendered}
 

@@ -17,7 +17,7 @@ use Rattle.inflight.specs.Calls.{Call, Heard, modelRun, tableRun}
 use Rattle.inflight.specs.declared.PublisherNumber.{PublisherNumber}
 use Rattle.inflight.specs.declared.Table.{Table}
 use Rattle.inflight_claims.proofs.ListClaim.{listed}
-use Rattle.walk.specs.Lines.{refusedLine}
+use Rattle.walk_turn.specs.Lines.{refusedLine}
 use Rattle.walk.specs.Walk.{Outcome, walkFrom, walkOf}
 use Rattle.walk_claims.specs.ProgramText.{callsFrom, faultFrom, rendered, modelText, Fed, fedFirst, fedNext, feed, Piece, feedAll, finish, joined, over, ProgramText, ProgramTexts}
 use Rattle.walk_claims.proofs.FullText.{fullFrom, told, full-is, enough}

@@ -11,10 +11,11 @@ use lib.ListN.{length, drop, length-append, length-drop}
 use lib.Seq.{drop-append-le, drop-drop}
 use Rattle.wire.specs.Choice.{pick}
 use Rattle.inflight.specs.declared.Table.{Table}
+use Rattle.walk_turn.specs.Turn.{linesOf, afterEvent}
+use Rattle.walk_turn.specs.declared.Event.{Event}
+use Rattle.walk_turn.specs.declared.Event.the-variants.{Ask, Reply, Cancel, Closed, Lost, End, Cut, Unknown}
 use Rattle.walk.specs.Events.{eventOf, recordSize, waits}
-use Rattle.walk.specs.Walk.{Outcome, ends, after, walkFrom, linesOf, afterEvent}
-use Rattle.walk.specs.declared.Event.{Event}
-use Rattle.walk.specs.declared.Event.the-variants.{Ask, Reply, Cancel, Closed, Lost, End, Cut, Unknown}
+use Rattle.walk.specs.Walk.{Outcome, ends, after, walkFrom}
 use Rattle.walk.proofs.EventLaws.{record-fits}
 use Rattle.walk_claims.proofs.FullText.{fullFrom, full-fuel, shorter}
 use Rattle.walk_claims.proofs.SameEvent.{same-event}

@@ -13,9 +13,9 @@ use mir.Syntax.{w64}
 use mir.Val.{toZ}
 use Rattle.wire.specs.Bytes.{le, part}
 use Rattle.wire.specs.Choice.{pick, first}
+use Rattle.walk_turn.specs.declared.Event.{Event}
+use Rattle.walk_turn.specs.declared.Event.the-variants.{Ask, Reply, Cancel, Closed, Lost, End, Cut, Unknown}
 use Rattle.walk.specs.Events.{bodySize, bodyOf, eventOf, recordSize, frontNumber, publisherNumber, waits}
-use Rattle.walk.specs.declared.Event.{Event}
-use Rattle.walk.specs.declared.Event.the-variants.{Ask, Reply, Cancel, Closed, Lost, End, Cut, Unknown}
 
 module _ (es more : List ℕ) where
   same-byte : (i : ℕ) → i < length es → getD (es ++ more) i 0 ≡ getD es i 0

@@ -14,11 +14,12 @@ use Rattle.inflight.specs.Tables.{freshOf}
 use Rattle.inflight.specs.Calls.{Call, Heard, ask, reply, cancel, closed, lost, modelRun}
 use Rattle.inflight.specs.declared.PublisherNumber.{PublisherNumber}
 use Rattle.inflight.specs.declared.Table.{Table}
+use Rattle.walk_turn.specs.Lines.{callLines, refusedLine}
+use Rattle.walk_turn.specs.Turn.{lentSlice}
+use Rattle.walk_turn.specs.declared.Event.{Event}
+use Rattle.walk_turn.specs.declared.Event.the-variants.{Ask, Reply, Cancel, Closed, Lost, End, Cut, Unknown}
 use Rattle.walk.specs.Events.{eventOf, recordSize}
-use Rattle.walk.specs.Lines.{callLines, refusedLine}
-use Rattle.walk.specs.Walk.{Outcome, lentSlice, walkOf}
-use Rattle.walk.specs.declared.Event.{Event}
-use Rattle.walk.specs.declared.Event.the-variants.{Ask, Reply, Cancel, Closed, Lost, End, Cut, Unknown}
+use Rattle.walk.specs.Walk.{Outcome, walkOf}
 
 -- ---- the events decoded
 

@@ -1,9 +1,26 @@
 -- `crc_short::joined` meets its contract: each run ends where the next register joins. Assumes nothing.
+use native.Mathlib.Omega.{arith}
 use Rattle.crc.specs.Crc.{reflected}
 use Rattle.crc.proofs.Joining.{merged-is}
-use borrow.Author.Needs.{needs}
 use Rattle.crc_short.proofs.joined.Statement.{statement}
 use Rattle.crc_short.proofs.joined.Tie as tie
+
+-- that a part ends no earlier than it starts is asked for twice
+sub-run : tie.Need-sub-run
+sub-run c = omega arith
+
+sub-run-2 : tie.Need-sub-run-2
+sub-run-2 c = omega arith
+
+sub-run-3 : tie.Need-sub-run-3
+sub-run-3 c = omega arith
+
+sub-run-4 : tie.Need-sub-run-4
+sub-run-4 c = omega arith
+
+-- the table's rule, known from the entry
+run-requires : tie.Need-run-requires
+run-requires c κs = c .before .before .before .before .before .pre
 
 returns : tie.Need-returns
 returns c =
@@ -19,23 +36,23 @@ pub joined-spec : {M : Type 1} → statement M
 joined-spec =
     tie.close
     (tie.spec
-    (λ c κs. search needs)
-    (λ c κs. search needs)
-    (λ c κs. search needs)
-    (λ c. search needs)
-    (λ c. search needs)
-    (λ c. search needs)
-    (λ c κs. search needs)
-    (λ c. search needs)
-    (λ c. search needs)
-    (λ c. search needs)
-    (λ c κs. search needs)
-    (λ c. search needs)
-    (λ c. search needs)
-    (λ c. search needs)
-    (λ c κs. search needs)
-    (λ c. search needs)
-    (λ c. search needs)
-    (λ c. search needs)
-    (λ c κs. search needs)
+    (λ c κs. tt)
+    (λ c κs. tt)
+    (λ c κs. tt)
+    sub-run
+    sub-run
+    (λ c. omega arith)
+    run-requires
+    sub-run-2
+    sub-run-2
+    (λ c. omega arith)
+    (λ c κs. run-requires (c .before .before .before) κs)
+    sub-run-3
+    sub-run-3
+    (λ c. omega arith)
+    (λ c κs. run-requires (c .before .before .before .before .before .before) κs)
+    sub-run-4
+    sub-run-4
+    (λ c. omega arith)
+    (λ c κs. run-requires (c .before .before .before .before .before .before .before .before .before) κs)
     returns)

@@ -6,7 +6,6 @@ use lib.Bits.{bitXor}
 use Rattle.wire.proofs.ByteLaws.{Small}
 use Rattle.crc.specs.Crc.{reflected}
 use Rattle.crc.proofs.Feeding.{front-word, last-word}
-use borrow.Author.Needs.{needs}
 use Rattle.crc_short.proofs.step.Statement.{statement}
 use Rattle.crc_short.proofs.step.Tie as tie
 
@@ -23,4 +22,10 @@ returns c =
 pub step-spec : {M : Type 1} → statement M
 step-spec =
     tie.close
-    (tie.spec (λ c. search needs) (λ c κs. search needs) (λ c κs. search needs) (λ c κs. search needs) (λ c κs. search needs) returns)
+    (tie.spec
+    (λ c. omega arith)
+    (λ c κs. omega arith)
+    (λ c κs. (c .before .before .pre .0, omega arith))
+    (λ c κs. omega arith)
+    (λ c κs. (c .before .before .before .before .pre .0, omega arith))
+    returns)

@@ -1,35 +1,26 @@
 -- `crc_short::word` meets its contract: its bytes, each looked up by itself. Assumes nothing.
-use mathlib.Core.Path.{_≡_, refl, ap, _∙_}
-use Prim.Native.Nat.{_+_, _*_}
+use mathlib.Core.Path.{refl}
 use native.Mathlib.Omega.{arith}
-use Rattle.crc.specs.Crc.{reflected, clocks}
+use Rattle.crc.specs.Crc.{reflected}
 use Rattle.crc.proofs.Register.{word-of-bytes}
-use borrow.Author.Needs.{needs}
 use Rattle.crc_short.proofs.word.Statement.{statement}
 use Rattle.crc_short.proofs.word.Tie as tie
 
 returns : tie.Need-returns
 returns c =
-    let b = c .before .before .before .before in
-    let k = b .args .k in
-    let m₁ : 8 * (k + 1 + 1) ≡ 8 + 8 * (k + 1) = omega arith in
-    let m₂ : 8 * (k + 2 + 1) ≡ 8 + 8 * (k + 1 + 1) = omega arith in
-    let m₃ : 8 * (k + 3 + 1) ≡ 8 + 8 * (k + 2 + 1) = omega arith in
-    let all : 8 * (k + 3 + 1) ≡ 8 * (k + 4) = omega arith in
-    let p = reflected (b .args .kind) in
-    word-of-bytes p (b .args .w) _ _ _ _ m₁ m₂ m₃ refl refl refl refl
+    let b = c .before .before .before .before .args in
+    word-of-bytes (reflected (b .kind)) (b .w) (b .k) 1 refl refl refl refl
     (c .before .before .before .look .ensures) (c .before .before .look2 .ensures) (c .before .look3 .ensures) (c .look4 .ensures)
-    ∙ ap (λ n. clocks p n (b .args .w)) all
 
 pub word-spec : {M : Type 1} → statement M
 word-spec =
     tie.close
     (tie.spec
-    (λ c κs. search needs)
-    (λ c. search needs)
-    (λ c κs. search needs)
-    (λ c. search needs)
-    (λ c κs. search needs)
-    (λ c. search needs)
-    (λ c κs. search needs)
+    (λ c κs. (c .pre .0, (omega arith, omega arith)))
+    (λ c. omega arith)
+    (λ c κs. (c .before .pre .0, (omega arith, omega arith)))
+    (λ c. omega arith)
+    (λ c κs. (c .before .before .pre .0, (omega arith, omega arith)))
+    (λ c. omega arith)
+    (λ c κs. (c .before .before .before .pre .0, (omega arith, omega arith)))
     returns)

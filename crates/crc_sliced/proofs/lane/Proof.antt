@@ -6,7 +6,6 @@ use lib.Bits.{bitXor}
 use Rattle.wire.proofs.ByteLaws.{Small}
 use Rattle.crc.specs.Crc.{reflected}
 use Rattle.crc.proofs.Feeding.{two-words}
-use borrow.Author.Needs.{needs}
 use Rattle.crc_sliced.proofs.lane.Statement.{statement}
 use Rattle.crc_sliced.proofs.lane.Tie as tie
 
@@ -17,4 +16,11 @@ returns c =
     two-words (reflected (b .args .kind)) (b .args .s .now) h (b .args .c) (b .args .i) 224 (b .pre .1) (c .before .before .four .ensures) (ap (bitXor (b .args .c)) (c .before .u32-at .ensures)) (c .word .ensures)
 
 pub lane-spec : {M : Type 1} → statement M
-lane-spec = tie.close (tie.spec (λ c. search needs) (λ c κs. search needs) (λ c κs. search needs) (λ c κs. search needs) returns)
+lane-spec =
+    tie.close
+    (tie.spec
+    (λ c. omega arith)
+    (λ c κs. (c .before .pre .0, (omega arith, omega arith)))
+    (λ c κs. omega arith)
+    (λ c κs. (c .before .before .before .pre .0, omega arith))
+    returns)

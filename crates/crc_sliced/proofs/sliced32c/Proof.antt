@@ -1,17 +1,16 @@
 -- `crc_sliced::sliced32c` meets its contract: its table passes the test, which antt computes. Assumes nothing.
-use mathlib.Core.Path.{refl, ap, _∙_}
+use mathlib.Core.Path.{ap, _∙_}
 use Rattle.wire.proofs.StoreLaws.{lent}
 use Rattle.crc.specs.Crc.{reflected}
 use Rattle.crc.specs.Interleaved.{merged}
 use Rattle.crc.specs.declared.Polynomial.the-variants.{Castagnoli}
-use Rattle.crc_sliced.proofs.Bases.{castagnoli-lead, castagnoli-rows}
 use Rattle.crc_sliced.proofs.RowsTest.{right}
 use borrow.Author.Needs.{needs}
 use Rattle.crc_sliced.proofs.sliced32c.Statement.{statement}
 use Rattle.crc_sliced.proofs.sliced32c.Tie as tie
 
 blocks-requires : tie.Need-blocks-requires
-blocks-requires c κs = right castagnoli-lead castagnoli-rows refl refl tt tt
+blocks-requires c κs = right tt tt
 
 returns : tie.Need-returns
 returns c =

@@ -1,4 +1,4 @@
--- The call by value: `inflight::lost`, its answer as fields.
+-- The call by value: `inflight_drop::lost`, its answer as fields.
 use mathlib.Core.Path.{_∙_, ap}
 use borrow.Author.Needs.{needs}
 use Rattle.inflight.specs.declared.Dropped.{Dropped}

@@ -5,7 +5,7 @@ use Rattle.inflight.proofs.requests.same_number.Statement.{statement}
 use Rattle.inflight.proofs.requests.same_number.Tie as tie
 
 returns : tie.Need-returns
-returns c = bits-same (c .before .before .before .before .args .a .0) (c .before .before .before .before .args .b .0) (search needs) (search needs)
+returns c = bits-same (c .before .before .before .before .args .m .0) (c .before .before .before .before .args .n .0) (search needs) (search needs)
 
 pub same-number-spec : {M : Type 1} → statement M
 same-number-spec = tie.close (tie.spec returns)

@@ -8,9 +8,10 @@ use borrow.Author.Needs.{needs}
 use lib.ListN.{length, take, drop}
 use lib.Seq.{sets, length-take-le}
 use Rattle.wire.proofs.StoreLaws.{lent}
+use Rattle.walk_turn.specs.Turn.{linesOf, afterEvent}
 use Rattle.walk.specs.Events.{eventOf, recordSize, waits}
 use mathlib.Core.Bool.{true}
-use Rattle.walk.specs.Walk.{linesOf, turnOf, afterEvent, walkOf, Told}
+use Rattle.walk.specs.Walk.{walkOf, Told}
 use Rattle.walk.proofs.WalkLaws.{Came, came-first, none-left, wait-ends, full-ends, stop-ends, goes-on, Lines, lines-known}
 use Rattle.walk.proofs.walking.walk_with.Statement.{statement}
 use Rattle.walk.proofs.walking.walk_with.Tie as tie
@@ -40,14 +41,14 @@ copied c = c .copy .ensures ∙ ap (sets (c .before .before .before .before .bef
 sub-turns : tie.Need-sub-turns Inv-loop μ-loop
 sub-turns c = search needs
 
-sub-rest : tie.Need-sub-rest Inv-loop μ-loop
-sub-rest c = search needs
+sub-event : tie.Need-sub-event Inv-loop μ-loop
+sub-event c = search needs
 
-part-rest-start : tie.Need-part-rest-start Inv-loop μ-loop
-part-rest-start c = search needs
+part-event-start : tie.Need-part-event-start Inv-loop μ-loop
+part-event-start c = search needs
 
-part-rest-end : tie.Need-part-rest-end Inv-loop μ-loop
-part-rest-end c = search needs
+part-event-end : tie.Need-part-event-end Inv-loop μ-loop
+part-event-end c = search needs
 
 event-requires : tie.Need-event-requires Inv-loop μ-loop
 event-requires c κs = search needs
@@ -55,36 +56,11 @@ event-requires c κs = search needs
 must-wait-requires : tie.Need-must-wait-requires Inv-loop μ-loop
 must-wait-requires c κs = search needs
 
-same-length : tie.Need-same-length Inv-loop μ-loop
-same-length c = search needs
-
-same-length-2 : tie.Need-same-length-2 Inv-loop μ-loop
-same-length-2 c = search needs
-
-returns : tie.Need-returns Inv-loop μ-loop
-returns c =
-    let a = c .before .before .before .before .before .before .before .before .before .args in
-    wait-ends (a .table) (a .events .now) (a .out .now) (a .last) (c .before .before .before .before .before .loop .inv .0) (c .before .before .before .before .loop-test .taken) (read (c .before .before)) (sym (c .before .must-wait .ensures) ∙ c .if1 .taken)
-
 turn-requires : tie.Need-turn-requires Inv-loop μ-loop
 turn-requires c κs = search needs
 
 left-requires : tie.Need-left-requires Inv-loop μ-loop
 left-requires c κs = search needs
-
-same-length-3 : tie.Need-same-length-3 Inv-loop μ-loop
-same-length-3 c = search needs
-
-same-length-4 : tie.Need-same-length-4 Inv-loop μ-loop
-same-length-4 c = search needs
-
-returns-2 : tie.Need-returns-2 Inv-loop μ-loop
-returns-2 c =
-    let a = c .before .before .before .before .before .before .before .before .before .before .before .before .before .before .before .before .args in
-    let k = known (c .before) in
-    let w = c .before .before .before .before .before .before .before .before .before .before .before .before .loop .inv .0 in
-    full-ends (a .table) (a .events .now) (a .out .now) (a .last) w (c .before .before .before .before .before .before .before .before .before .before .before .loop-test .taken) (read (c .before .before .before .before .before .before .before .before .before)) (sym (c .before .before .before .before .before .before .before .before .must-wait .ensures) ∙ c .before .before .before .before .before .before .before .if1 .left)
-    (omega (arith, k .size, w .same, c .before .left .ensures, c .if2 .taken))
 
 slice-reshare-prefix-copy : tie.Need-slice-reshare-prefix-copy Inv-loop μ-loop
 slice-reshare-prefix-copy c = known (c .before .before) .enough
@@ -101,14 +77,14 @@ add-to c = search needs
 record-size-requires : tie.Need-record-size-requires Inv-loop μ-loop
 record-size-requires c κs = search needs
 
-same-length-5 : tie.Need-same-length-5 Inv-loop μ-loop
-same-length-5 c = search needs
+same-length : tie.Need-same-length Inv-loop μ-loop
+same-length c = search needs
 
-same-length-6 : tie.Need-same-length-6 Inv-loop μ-loop
-same-length-6 c = search needs
+same-length-2 : tie.Need-same-length-2 Inv-loop μ-loop
+same-length-2 c = search needs
 
-returns-3 : tie.Need-returns-3 Inv-loop μ-loop
-returns-3 c =
+returns : tie.Need-returns Inv-loop μ-loop
+returns c =
     let a = c .before .before .before .before .before .before .before .before .before .before .before .before .before .before .before .before .before .before .before .before .before .before .before .args in
     let k = known (c .before .before .before .before .before .before .before .before) in
     let w = c .before .before .before .before .before .before .before .before .before .before .before .before .before .before .before .before .before .before .before .loop .inv .0 in
@@ -145,6 +121,28 @@ loop-again c =
     let w = goes (c .before .before) (c .before .if3 .left) in
     (rw (k .table, c .before .before .record-size .ensures, k .size) w, omega (arith, k .long, l .inv .1), k .long ∙ l .inv .2)
 
+same-length-3 : tie.Need-same-length-3 Inv-loop μ-loop
+same-length-3 c = search needs
+
+same-length-4 : tie.Need-same-length-4 Inv-loop μ-loop
+same-length-4 c = search needs
+
+returns-2 : tie.Need-returns-2 Inv-loop μ-loop
+returns-2 c =
+    let a = c .before .before .before .before .before .args in
+    none-left (a .table) (a .events .now) (a .out .now) (a .last) (c .before .loop .inv .0) (omega arith)
+
+same-length-5 : tie.Need-same-length-5 Inv-loop μ-loop
+same-length-5 c = search needs
+
+same-length-6 : tie.Need-same-length-6 Inv-loop μ-loop
+same-length-6 c = search needs
+
+returns-3 : tie.Need-returns-3 Inv-loop μ-loop
+returns-3 c =
+    let a = c .before .before .before .before .before .before .before .before .before .args in
+    wait-ends (a .table) (a .events .now) (a .out .now) (a .last) (c .before .before .before .before .before .loop .inv .0) (c .before .before .before .before .loop-test .taken) (read (c .before .before)) (sym (c .before .must-wait .ensures) ∙ c .if1 .taken)
+
 same-length-7 : tie.Need-same-length-7 Inv-loop μ-loop
 same-length-7 c = search needs
 
@@ -153,8 +151,11 @@ same-length-8 c = search needs
 
 returns-4 : tie.Need-returns-4 Inv-loop μ-loop
 returns-4 c =
-    let a = c .before .before .before .before .before .args in
-    none-left (a .table) (a .events .now) (a .out .now) (a .last) (c .before .loop .inv .0) (omega arith)
+    let a = c .before .before .before .before .before .before .before .before .before .before .before .before .before .before .before .before .args in
+    let k = known (c .before) in
+    let w = c .before .before .before .before .before .before .before .before .before .before .before .before .loop .inv .0 in
+    full-ends (a .table) (a .events .now) (a .out .now) (a .last) w (c .before .before .before .before .before .before .before .before .before .before .before .loop-test .taken) (read (c .before .before .before .before .before .before .before .before .before)) (sym (c .before .before .before .before .before .before .before .before .must-wait .ensures) ∙ c .before .before .before .before .before .before .before .if1 .left)
+    (omega (arith, k .size, w .same, c .before .left .ensures, c .if2 .taken))
 
 pub walk-with-spec : {M : Type 1} → statement M
 walk-with-spec =
@@ -164,30 +165,30 @@ walk-with-spec =
     μ-loop
     loop-holds
     sub-turns
-    sub-rest
-    part-rest-start
-    part-rest-end
+    sub-event
+    part-event-start
+    part-event-end
     event-requires
     must-wait-requires
-    same-length
-    same-length-2
-    returns
     turn-requires
     left-requires
-    same-length-3
-    same-length-4
-    returns-2
     slice-reshare-prefix-copy
     slice-aggregate-copy
     copy-requires
     add-to
     record-size-requires
-    same-length-5
-    same-length-6
-    returns-3
+    same-length
+    same-length-2
+    returns
     add-at
     loop-less
     loop-again
+    same-length-3
+    same-length-4
+    returns-2
+    same-length-5
+    same-length-6
+    returns-3
     same-length-7
     same-length-8
     returns-4)

@@ -1,0 +1,2 @@
+-- Definitions of crate cancel_out: the short bodies.
+pub mod WriteShort

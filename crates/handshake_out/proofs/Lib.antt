@@ -1,0 +1,2 @@
+-- Laws that the proofs of crate handshake_out cite.
+pub mod BodyLaws

@@ -1,0 +1,2 @@
+-- Definitions of crate handshake_out: our Handshake.
+pub mod Handshake

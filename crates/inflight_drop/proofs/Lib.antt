@@ -1,0 +1,2 @@
+-- The laws that the proofs of crate inflight_drop cite.
+pub mod EndLaws

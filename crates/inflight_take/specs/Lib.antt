@@ -1,0 +1,2 @@
+-- What the contract of the private search cites besides the definitions of crate inflight.
+pub mod Oldest

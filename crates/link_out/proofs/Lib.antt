@@ -1,2 +1,0 @@
--- Laws that the proofs of crate link_out cite.
-pub mod BodyLaws

@@ -1,0 +1,2 @@
+-- Definitions of crate nonce_out: our Nonce.
+pub mod Nonce

@@ -1,0 +1,8 @@
+// What a link sends first: its Nonce.
+//
+// `nonce_step` takes a link by value and a lent buffer, and hands the link back beside the answer: the packet's size, with
+// the packet at the buffer's front, or a refusal's number, with the buffer as it was. A send never closes a link. The
+// caller gives time and random bytes. The type that matters is `Step`, of the crate `send_rules`.
+mod nonce;
+
+pub use nonce::nonce_step;

@@ -1,2 +1,0 @@
--- Laws that the proofs of crate packet cite.
-pub mod HeadLaws

@@ -1,0 +1,2 @@
+-- Laws that the proofs of crate packet_in cite.
+pub mod HeadLaws

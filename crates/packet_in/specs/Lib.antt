@@ -1,0 +1,3 @@
+-- Definitions of crate packet_in: framing.
+pub mod Head
+pub mod Frame

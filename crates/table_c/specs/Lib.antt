@@ -1,2 +1,0 @@
--- Definitions of crate table_c: the answers of the table's calls as structs of numbers.
-pub mod CallFields

@@ -1,0 +1,142 @@
+-- One event: a case for each kind. Assumes nothing.
+use Rattle.walk_turn.specs.Turn.{turnOf, linesOf, afterEvent}
+use Rattle.walk_turn.proofs.TurnLaws.{event-is}
+use borrow.Author.Needs.{needs}
+use Rattle.walk_turn.proofs.turns.turn.Statement.{statement}
+use Rattle.walk_turn.proofs.turns.turn.Tie as tie
+
+enum-known-e : tie.Need-enum-known-e
+enum-known-e c = search needs
+
+ask-turn-requires : tie.Need-ask-turn-requires
+ask-turn-requires c κs = search needs
+
+enum-known-e-2 : tie.Need-enum-known-e-2
+enum-known-e-2 c = search needs
+
+reply-turn-requires : tie.Need-reply-turn-requires
+reply-turn-requires c κs = search needs
+
+enum-known-e-3 : tie.Need-enum-known-e-3
+enum-known-e-3 c = search needs
+
+cancel-turn-requires : tie.Need-cancel-turn-requires
+cancel-turn-requires c κs = search needs
+
+enum-known-e-4 : tie.Need-enum-known-e-4
+enum-known-e-4 c = search needs
+
+closed-turn-requires : tie.Need-closed-turn-requires
+closed-turn-requires c κs = search needs
+
+enum-known-e-5 : tie.Need-enum-known-e-5
+enum-known-e-5 c = search needs
+
+lost-turn-requires : tie.Need-lost-turn-requires
+lost-turn-requires c κs = search needs
+
+enum-told : tie.Need-enum-told
+enum-told c = search needs
+
+no-turn-requires : tie.Need-no-turn-requires
+no-turn-requires c κs = search needs
+
+enum-told-2 : tie.Need-enum-told-2
+enum-told-2 c = search needs
+
+no-turn-requires-2 : tie.Need-no-turn-requires-2
+no-turn-requires-2 c κs = search needs
+
+enum-told-3 : tie.Need-enum-told-3
+enum-told-3 c = search needs
+
+no-turn-requires-3 : tie.Need-no-turn-requires-3
+no-turn-requires-3 c κs = search needs
+
+same-length : tie.Need-same-length
+same-length c = search needs
+
+returns : tie.Need-returns
+returns c = event-is (c .before .before .before .before .before .before .before .before .args .t) (c .before .before .before .before .before .before .before .before .args .text .now) (c .before .before .before .before .before .e .given .1) (c .before .before .ask-turn .ensures)
+
+same-length-2 : tie.Need-same-length-2
+same-length-2 c = search needs
+
+returns-2 : tie.Need-returns-2
+returns-2 c = event-is (c .before .before .before .before .before .before .before .before .args .t) (c .before .before .before .before .before .before .before .before .args .text .now) (c .before .before .before .before .before .e2 .given .1) (c .before .before .reply-turn .ensures)
+
+same-length-3 : tie.Need-same-length-3
+same-length-3 c = search needs
+
+returns-3 : tie.Need-returns-3
+returns-3 c = event-is (c .before .before .before .before .before .before .before .before .args .t) (c .before .before .before .before .before .before .before .before .args .text .now) (c .before .before .before .before .before .e3 .given .1) (c .before .before .cancel-turn .ensures)
+
+same-length-4 : tie.Need-same-length-4
+same-length-4 c = search needs
+
+returns-4 : tie.Need-returns-4
+returns-4 c = event-is (c .before .before .before .before .before .before .before .before .args .t) (c .before .before .before .before .before .before .before .before .args .text .now) (c .before .before .before .before .before .e4 .given .1) (c .before .before .closed-turn .ensures)
+
+same-length-5 : tie.Need-same-length-5
+same-length-5 c = search needs
+
+returns-5 : tie.Need-returns-5
+returns-5 c = event-is (c .before .before .before .before .before .before .before .before .args .t) (c .before .before .before .before .before .before .before .before .args .text .now) (c .before .before .before .before .before .e5 .given .1) (c .before .before .lost-turn .ensures)
+
+same-length-6 : tie.Need-same-length-6
+same-length-6 c = search needs
+
+returns-6 : tie.Need-returns-6
+unfolding turnOf linesOf afterEvent
+returns-6 c = event-is (c .before .before .before .before .before .before .before .args .t) (c .before .before .before .before .before .before .before .args .text .now) (c .before .before .before .before .enum-told .given .1) (c .before .before .no-turn .ensures)
+
+same-length-7 : tie.Need-same-length-7
+same-length-7 c = search needs
+
+returns-7 : tie.Need-returns-7
+unfolding turnOf linesOf afterEvent
+returns-7 c = event-is (c .before .before .before .before .before .before .before .args .t) (c .before .before .before .before .before .before .before .args .text .now) (c .before .before .before .before .enum-told2 .given .1) (c .before .before .no-turn2 .ensures)
+
+same-length-8 : tie.Need-same-length-8
+same-length-8 c = search needs
+
+returns-8 : tie.Need-returns-8
+unfolding turnOf linesOf afterEvent
+returns-8 c = event-is (c .before .before .before .before .before .before .before .args .t) (c .before .before .before .before .before .before .before .args .text .now) (c .before .before .before .before .enum-told3 .given .1) (c .before .before .no-turn3 .ensures)
+
+pub turn-spec : {M : Type 1} → statement M
+turn-spec =
+    tie.close
+    (tie.spec
+    enum-known-e
+    ask-turn-requires
+    enum-known-e-2
+    reply-turn-requires
+    enum-known-e-3
+    cancel-turn-requires
+    enum-known-e-4
+    closed-turn-requires
+    enum-known-e-5
+    lost-turn-requires
+    enum-told
+    no-turn-requires
+    enum-told-2
+    no-turn-requires-2
+    enum-told-3
+    no-turn-requires-3
+    same-length
+    returns
+    same-length-2
+    returns-2
+    same-length-3
+    returns-3
+    same-length-4
+    returns-4
+    same-length-5
+    returns-5
+    same-length-6
+    returns-6
+    same-length-7
+    returns-7
+    same-length-8
+    returns-8)
