@@ -233,10 +233,10 @@ typedef struct relay_publisher_number {
 
 /* A request in flight (document 01: a ticket). */
 typedef struct relay_request {
-    uint8_t link;
     relay_front_number front;
-    uint8_t publisher;
     relay_publisher_number number;
+    uint8_t link;
+    uint8_t publisher;
 } relay_request;
 
 /* A table, for its calls alone: made by relay_fresh, lent to each call, and updated where it stands. Front links are 0

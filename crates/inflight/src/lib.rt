@@ -26,10 +26,10 @@ pub struct PublisherNumber(pub i64);
 // A request in flight (document 01: a ticket, an entry of the book).
 #[repr(C)]
 pub struct Request {
-    pub link: u8,
     pub front: FrontNumber,
-    pub publisher: u8,
     pub number: PublisherNumber,
+    pub link: u8,
+    pub publisher: u8,
 }
 
 // The table: its first `count` requests are in flight, oldest accepted first; `next` is the number after each publisher's last one.

@@ -110,10 +110,10 @@ fn structs() -> Vec<String> {
         lines!(
             relay_request,
             Request {
-                link,
                 front,
-                publisher,
-                number
+                number,
+                link,
+                publisher
             }
         ),
         lines!(

@@ -109,10 +109,10 @@ pub struct Sent {
 #[repr(C)]
 #[derive(Clone, Copy, Debug, PartialEq, Eq)]
 pub struct Request {
-    pub link: u8,
     pub front: FrontNumber,
-    pub publisher: u8,
     pub number: PublisherNumber,
+    pub link: u8,
+    pub publisher: u8,
 }
 
 #[repr(C)]
