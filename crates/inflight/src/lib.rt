@@ -1,9 +1,8 @@
 // Requests in flight (document 01: the ticket table): which front link asked which publisher, under which numbers.
-// It never opens a socket, reads a clock or allocates: a table goes in by value and comes back with the answer.
-// `Table` is the state, `Request` one request in flight; `fresh` makes a table, and a `Key` names requests to count or remove.
-// The calls stand above it: `ask` in crate `inflight_ask`, `reply` and `cancel` in `inflight_take`, `closed` and `lost` in `inflight_drop`.
-// Every call is total: a table that no call has made, garbage included, gets the answer that its definition gives (specs/Tables.antt),
-// which is document 01's book, specs/Model.antt, and nothing else.
+// It never opens a socket, reads a clock or allocates. `Table` is the state, by value; `Request` is one request in flight, and a `Key` names some.
+// `fresh` makes a table. The calls stand above: `ask` in crate `inflight_ask`, `reply` and `cancel` in `inflight_take`, `closed` and `lost` in `inflight_drop`.
+// Every call is total: a table that no call has made, garbage included, gets the answer that its definition gives (specs/Tables.antt).
+// What the calls do is document 01's book, specs/Model.antt, and nothing else.
 mod requests;
 mod start;
 
