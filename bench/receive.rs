@@ -19,6 +19,7 @@ use plain_crc::{bytewise, sliced, tables};
 struct Settings {
     server: bool,
     allows: bool,
+    lowest: u8,
 }
 
 #[repr(C)]
@@ -165,7 +166,7 @@ impl Plain {
 fn opened(crc32c: bool, payload: &[u8]) -> (Link, Second, Vec<u8>) {
     let mut client = Second::new(Side::Client, crc32c);
     let mut server = Second::new(Side::Server, crc32c);
-    let mut ours = unsafe { relay_set_up(Settings { server: true, allows: crc32c }) }.link;
+    let mut ours = unsafe { relay_set_up(Settings { server: true, allows: crc32c, lowest: 0 }) }.link;
     let mut buffer = vec![0; BODY + 16];
     for step in [Outgoing::Nonce(TIME, [7; 16]), Outgoing::Handshake([1; 12], [2; 12])] {
         let size = client.send(&step, &mut buffer).expect("the client's turn");

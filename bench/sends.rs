@@ -20,7 +20,7 @@ const ROOM: usize = 2048;
 /// A client of ours and one of the second program, after the same opening.
 fn opened(crc32c: bool) -> (relay::Link, Second) {
     let now = relay::Moment { time: TIME };
-    let mut ours = relay::Link::new(relay::Settings { side: relay::Side::Client, crc32c }).expect("a link");
+    let mut ours = relay::Link::new(relay::Settings::new(relay::Side::Client, crc32c)).expect("a link");
     let mut second = Second::new(Side::Client, crc32c);
     let mut server = Second::new(Side::Server, crc32c);
     let pid = |n| relay::NetPid { ip: n, port: 0, pid: 0, start: 0 };

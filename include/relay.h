@@ -44,7 +44,8 @@ enum {
     RELAY_LINK_CLOSED = 20,             /* the link is closed */
     RELAY_PING_OUT_OF_TURN = 21,        /* a Ping or Pong out of turn */
     RELAY_NOT_OUR_TURN = 22,            /* it is the other side's turn in the opening */
-    RELAY_OUT_OF_RANGE = 30,            /* a link, publisher or first number is out of range */
+    RELAY_VERSION_TOO_OLD = 24,         /* a Nonce's version is below the link's lowest */
+    RELAY_OUT_OF_RANGE = 30,            /* a link, publisher, first number or lowest version is out of range */
     RELAY_IN_FLIGHT_ALREADY = 31,       /* the link has a request in flight with this number */
     RELAY_LOAD_AT_LIMIT = 32,           /* the publisher has 16 requests in flight */
     RELAY_CAPACITY_GONE = 33,           /* what is left of the 64 places is reserved for other publishers */
@@ -109,9 +110,12 @@ relay_message relay_read_message(bool server, uint32_t type, const uint8_t *body
 
 /* ---- Links ---- */
 
+/* How a link is set up. Settings are added at the end, and 0, which an initialiser gives to what it does not name, is
+ * the behaviour from before the setting: a caller is compiled again with this header, and needs no change. */
 typedef struct relay_settings {
     bool server;
-    bool allows; /* CRC-32C is offered by a client, or granted by a server that is offered it */
+    bool allows;    /* CRC-32C is offered by a client, or granted by a server that is offered it */
+    uint8_t lowest; /* the lowest version that the other side's Nonce may have, 0 to 2; 0 takes every version */
 } relay_settings;
 
 /* What the caller gives with each call. */
@@ -134,12 +138,14 @@ typedef struct relay_link {
     uint64_t owed;
 } relay_link;
 
-/* A link before its opening, or why it is refused: refusal is 0 where link may be used. */
+/* A link before its opening, or why it is refused: refusal is 0 where link may be used. After a refusal link is a
+ * closed one, which refuses every call with 20. */
 typedef struct relay_set_up_answer {
     uint8_t refusal;
     relay_link link;
 } relay_set_up_answer;
 
+/* Refused with 30 for a lowest version above 2. */
 relay_set_up_answer relay_set_up(relay_settings settings);
 
 /* What stands at the front of received bytes: relay_arrival.tag. */
@@ -159,8 +165,8 @@ typedef struct relay_arrival {
     size_t at, len;  /* its body: len bytes from byte at on */
 } relay_arrival;
 
-/* The packet at the front of the bytes, how many bytes it lacks, or why it is refused. Refusals 1 to 10, 17 and 21 close
- * the link; 20, 22 and an incomplete packet leave it as it was. */
+/* The packet at the front of the bytes, how many bytes it lacks, or why it is refused. Refusals 1 to 10, 17, 21 and 24
+ * close the link; 20, 22 and an incomplete packet leave it as it was. */
 relay_arrival relay_receive(relay_link *link, const uint8_t *bytes, size_t n, relay_moment moment);
 
 /* A part of the lent bytes. */

@@ -25,7 +25,7 @@ static relay_part pass(relay_link *from, relay_link *to, relay_outgoing what, co
 }
 
 int main(void) {
-    relay_settings client = {false, true}, server = {true, true};
+    relay_settings client = {.server = false, .allows = true}, server = {.server = true, .allows = true};
     relay_link front = relay_set_up(client).link, ours = relay_set_up(server).link;
     uint8_t buf[256];
 

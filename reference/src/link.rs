@@ -16,11 +16,38 @@ use packet::{HANDSHAKE, NONCE, PING, PONG};
 
 pub use opening::{handshake_body, nonce_body, Nonce, FLAG_CRC32C, OUR_VERSION};
 
+/// What a driver says when it sets up a link.
+#[derive(Clone, Copy, Debug, PartialEq, Eq)]
+pub struct Settings {
+    pub side: Side,
+    pub crc32c_allowed: bool,
+    /// A Nonce of theirs below it is refused. 0 if not said: none is.
+    pub lowest_version: u8,
+}
+
+impl Settings {
+    /// With everything else not said.
+    pub fn new(side: Side, crc32c_allowed: bool) -> Settings {
+        Settings {
+            side,
+            crc32c_allowed,
+            lowest_version: 0,
+        }
+    }
+
+    /// Under a lowest version above ours a client would take no Nonce at all,
+    /// and a server would answer with a version below it.
+    fn judge(&self) -> Result<(), Refusal> {
+        if self.lowest_version > OUR_VERSION {
+            return Err(Refusal::OutOfRange);
+        }
+        Ok(())
+    }
+}
+
 #[derive(Clone)]
 pub struct Link {
-    side: Side,
-    /// Our setting.
-    crc32c_allowed: bool,
+    settings: Settings,
     stage: Stage,
     /// The number of the next packet in each direction.
     incoming: u32,
@@ -41,6 +68,7 @@ pub struct Link {
 /// knows.
 #[derive(Clone, Copy, Debug, PartialEq, Eq)]
 pub struct State {
+    pub settings: Settings,
     pub closed: bool,
     /// How many packets of the opening went over; 4 after it.
     pub stage: u8,
@@ -92,10 +120,20 @@ impl Outgoing<'_> {
 }
 
 impl Link {
+    /// A link with everything else not said.
     pub fn new(side: Side, crc32c_allowed: bool) -> Link {
+        Link::fresh(Settings::new(side, crc32c_allowed))
+    }
+
+    /// A link with all its settings. 30 if its lowest version is above 2.
+    pub fn set_up(settings: Settings) -> Result<Link, Refusal> {
+        settings.judge()?;
+        Ok(Link::fresh(settings))
+    }
+
+    fn fresh(settings: Settings) -> Link {
         Link {
-            side,
-            crc32c_allowed,
+            settings,
             stage: Stage::ClientNonce,
             incoming: packet::FIRST_NUMBER,
             outgoing: packet::FIRST_NUMBER,
@@ -119,6 +157,7 @@ impl Link {
 
     pub fn state(&self) -> State {
         State {
+            settings: self.settings,
             closed: self.closed,
             stage: self.stage as u8,
             incoming: self.incoming,

@@ -1,4 +1,4 @@
-//! The refusal numbers of document 01.
+//! The refusal numbers of document 01 and of the change requests.
 
 #[derive(Clone, Copy, Debug, PartialEq, Eq)]
 pub enum Refusal {
@@ -24,6 +24,7 @@ pub enum Refusal {
     LinkClosed = 20,
     PingOutOfTurn = 21,
     NotOurTurn = 22,
+    VersionTooLow = 24,
     OutOfRange = 30,
     InFlightAlready = 31,
     LoadFull = 32,

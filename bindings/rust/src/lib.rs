@@ -12,7 +12,7 @@
 //! use relay::{Arrival, Link, Moment, Settings, Side, ToSend};
 //!
 //! let now = Moment { time: 1_700_000_000 };
-//! let link = |side| Link::new(Settings { side, crc32c: true });
+//! let link = |side| Link::new(Settings::new(side, true));
 //! let (mut client, mut server) = (link(Side::Client)?, link(Side::Server)?);
 //! let mut buf = [0; 128];
 //! let size = client.send(&mut buf, ToSend::Nonce { random: [7; 16] }, now)?;

@@ -11,12 +11,41 @@ pub enum Side {
     Server,
 }
 
+/// How a link is set up. Only `new` makes one, so that a setting added later
+/// changes nothing for callers that do not say it.
+#[non_exhaustive]
 #[derive(Clone, Copy, Debug, PartialEq, Eq)]
 pub struct Settings {
     pub side: Side,
     /// Whether CRC-32C is offered by a client, or granted by a server that is
     /// offered it.
     pub crc32c: bool,
+    /// The lowest version that the other side's Nonce may have, 0 to 2; 0 takes
+    /// every version.
+    pub lowest: u8,
+}
+
+impl Settings {
+    /// Every other setting as if it is not said.
+    pub const fn new(side: Side, crc32c: bool) -> Settings {
+        Settings {
+            side,
+            crc32c,
+            lowest: 0,
+        }
+    }
+
+    pub const fn with_lowest(self, lowest: u8) -> Settings {
+        Settings { lowest, ..self }
+    }
+
+    fn raw(self) -> raw::Settings {
+        raw::Settings {
+            server: self.side == Side::Server,
+            allows: self.crc32c,
+            lowest: self.lowest,
+        }
+    }
 }
 
 /// What the caller gives with each call.
@@ -55,19 +84,16 @@ pub enum Arrival<'a> {
 pub struct Link(pub(crate) raw::Link);
 
 impl Link {
-    /// A link before its opening. No settings are refused yet.
+    /// A link before its opening; refused with 30 for a lowest version above 2.
     pub fn new(settings: Settings) -> Result<Link, Refusal> {
-        let settings = raw::Settings {
-            server: settings.side == Side::Server,
-            allows: settings.crc32c,
-        };
         // SAFETY: all is passed by value.
-        let answer = unsafe { raw::relay_set_up(settings) };
+        let answer = unsafe { raw::relay_set_up(settings.raw()) };
         Refusal::unless(answer.refusal, Link(answer.link))
     }
 
     /// The packet at the front of `bytes`, how many bytes it lacks, or why it
-    /// is refused. Of the refusals, only 20 and 22 leave the link open.
+    /// is refused. Refusals 1 to 10, 17, 21 and 24 close the link; 20 and 22
+    /// leave it as it was.
     pub fn receive<'a>(&mut self, bytes: &'a [u8], moment: Moment) -> Arrival<'a> {
         let (start, n) = (bytes.as_ptr(), bytes.len());
         // SAFETY: the link is borrowed, the pointer and length are a slice's.

@@ -72,7 +72,8 @@ refusals! {
     LINK_CLOSED = 20, "the link is closed";
     PING_OUT_OF_TURN = 21, "a Ping or Pong out of turn";
     NOT_OUR_TURN = 22, "it is the other side's turn in the opening";
-    OUT_OF_RANGE = 30, "a link, publisher or first number is out of range";
+    VERSION_TOO_OLD = 24, "a Nonce's version is below the link's lowest";
+    OUT_OF_RANGE = 30, "a link, publisher, first number or lowest version is out of range";
     IN_FLIGHT_ALREADY = 31, "the link has a request in flight with this number";
     LOAD_AT_LIMIT = 32, "the publisher has 16 requests in flight";
     CAPACITY_GONE = 33, "what is left of the 64 places is reserved for other publishers";

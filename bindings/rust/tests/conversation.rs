@@ -1,8 +1,8 @@
 //! Two links against each other: opening, keep-alive, an invoke and its result.
 
 use relay::{
-    clock_difference, packet_type, read_message, Answer, Arrival, Invoke, Link, Message, Moment,
-    NetPid, Refusal, Settings, Side, ToSend,
+    checksum, clock_difference, packet_type, read_message, Answer, Arrival, Invoke, Link, Message,
+    Moment, NetPid, Refusal, Settings, Side, ToSend,
 };
 
 const CLIENT_TIME: Moment = Moment {
@@ -28,7 +28,12 @@ const HANDSHAKE: ToSend = ToSend::Handshake {
 };
 
 fn link(side: Side, crc32c: bool) -> Link {
-    Link::new(Settings { side, crc32c }).unwrap()
+    Link::new(Settings::new(side, crc32c)).unwrap()
+}
+
+/// A link that takes versions from `lowest` up.
+fn link_from(side: Side, lowest: u8) -> Link {
+    Link::new(Settings::new(side, true).with_lowest(lowest)).unwrap()
 }
 
 struct Pair {
@@ -69,10 +74,11 @@ impl Pair {
     }
 
     fn open(client: bool, server: bool) -> Pair {
-        let mut pair = Pair {
-            client: link(Side::Client, client),
-            server: link(Side::Server, server),
-        };
+        Pair::opened(link(Side::Client, client), link(Side::Server, server))
+    }
+
+    fn opened(client: Link, server: Link) -> Pair {
+        let mut pair = Pair { client, server };
         let (kind, nonce) = pair.pass(Side::Client, NONCE);
         assert_eq!(kind, packet_type::NONCE);
         assert_eq!(clock_difference(&nonce, SERVER_TIME), Some(-7));
@@ -86,6 +92,51 @@ impl Pair {
 }
 
 const SETTINGS: [(bool, bool); 4] = [(false, false), (false, true), (true, false), (true, true)];
+
+#[test]
+fn every_pair_of_lowest_versions_opens() {
+    for client in 0..=2 {
+        for server in 0..=2 {
+            Pair::opened(
+                link_from(Side::Client, client),
+                link_from(Side::Server, server),
+            );
+        }
+    }
+}
+
+/// The first packet of an old program: a Nonce without the DH point.
+fn old_nonce(version: u8) -> Vec<u8> {
+    let mut packet = vec![44, 0, 0, 0, 0xfe, 0xff, 0xff, 0xff];
+    packet.extend(packet_type::NONCE.to_le_bytes());
+    packet.extend([0, 0, 0, 0, 0, version, 0, 0]);
+    packet.extend(CLIENT_TIME.time.to_le_bytes());
+    packet.extend([7; 16]);
+    packet.extend(checksum::crc32(&packet).to_le_bytes());
+    packet
+}
+
+#[test]
+fn an_old_peer_is_refused_by_a_link_whose_lowest_version_is_above() {
+    for side in [Side::Client, Side::Server] {
+        for (version, lowest) in [(0, 0), (0, 1), (0, 2), (1, 0), (1, 1), (1, 2)] {
+            let mut link = link_from(side, lowest);
+            if side == Side::Client {
+                link.send(&mut [0; 76], NONCE, CLIENT_TIME).unwrap();
+            }
+            let packet = old_nonce(version);
+            let arrival = link.receive(&packet, CLIENT_TIME);
+            if version < lowest {
+                assert_eq!(arrival, Arrival::Refused(Refusal::VERSION_TOO_OLD));
+                let after = link.receive(&[], CLIENT_TIME);
+                assert_eq!(after, Arrival::Refused(Refusal::LINK_CLOSED));
+            } else {
+                assert!(matches!(arrival, Arrival::Packet { consumed: 44, .. }));
+            }
+            assert_eq!(link.is_closed(), version < lowest);
+        }
+    }
+}
 
 #[test]
 fn keep_alive_in_both_directions() {

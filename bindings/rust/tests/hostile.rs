@@ -24,8 +24,19 @@ impl Random {
     }
 }
 
-fn link(side: Side) -> Link {
-    Link::new(Settings { side, crc32c: true }).unwrap()
+fn link(side: Side, lowest: u8) -> Link {
+    Link::new(Settings::new(side, true).with_lowest(lowest)).unwrap()
+}
+
+#[test]
+fn lowest_versions_of_all_sizes() {
+    for lowest in 0..=255 {
+        for side in SIDES {
+            let refusal = Link::new(Settings::new(side, true).with_lowest(lowest)).err();
+            let expected = (lowest > 2).then_some(Refusal::OUT_OF_RANGE);
+            assert_eq!(refusal, expected, "{lowest}");
+        }
+    }
 }
 
 #[test]
@@ -39,14 +50,14 @@ fn lengths_of_all_sizes() {
         (u32::MAX, 3),
     ] {
         let bytes = u32::to_le_bytes(length);
-        match link(Side::Server).receive(&bytes, NOW) {
+        match link(Side::Server, 0).receive(&bytes, NOW) {
             Arrival::Refused(refusal) => assert_eq!(refusal.number(), number),
             other => panic!("{other:?}"),
         }
     }
     for length in [16, 1023] {
         let bytes = u32::to_le_bytes(length);
-        let arrival = link(Side::Server).receive(&bytes, NOW);
+        let arrival = link(Side::Server, 0).receive(&bytes, NOW);
         assert_eq!(arrival, Arrival::Incomplete(8));
     }
 }
@@ -56,8 +67,9 @@ fn random_bytes_at_either_side() {
     let mut random = Random(1);
     for n in 0..2000 {
         let bytes = random.bytes(n % 100);
+        let lowest = (random.next() % 3) as u8;
         for side in SIDES {
-            let mut link = link(side);
+            let mut link = link(side, lowest);
             let arrival = link.receive(&bytes, NOW);
             match (side, arrival) {
                 (Side::Client, answer) => {

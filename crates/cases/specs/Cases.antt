@@ -35,7 +35,7 @@ _is_ x y = record { ours = x; paper = y }
 
 -- the settings of a server, or of a client
 abbrev pub side : Bool → Settings
-side server = record { server = server; allows = false }
+side server = record { server = server; allows = false; lowest = 0 }
 
 -- our clock
 abbrev pub our : Moment

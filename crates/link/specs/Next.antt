@@ -29,9 +29,10 @@ closedOf l =
       owed = l .owed;
     }
 
--- "On receive, 1 to 10, 21, and 17 for Ping and Pong close the link; nothing else does" (receive gives 17 for no other)
+-- "On receive, 1 to 10, 21, and 17 for Ping and Pong close the link; nothing else does" (receive gives 17 for no other);
+-- 24 "closes the link" too (document 02, A11)
 unfoldable pub closesOf : ℕ → Bool
-closesOf k = first ((eqb k 17, true) ∷ (eqb k 21, true) ∷ []) (leb 1 k && leb k 10)
+closesOf k = first ((eqb k 17, true) ∷ (eqb k 21, true) ∷ (eqb k 24, true) ∷ []) (leb 1 k && leb k 10)
 
 -- the link after a refusal
 unfoldable pub refusedOf : Link → ℕ → Link

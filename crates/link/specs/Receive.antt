@@ -1,5 +1,5 @@
 -- What a receive call answers, and the link after it (document 01, "Packets" and "Receive order: 20, 22, 1, 3, 2, 4, 5,
--- 6, then 7 to 10 or 17, 21"). Assumes nothing.
+-- 6, then 7 to 10 or 17, 21"; document 02, A11: 24 "after 8 and before 9"). Assumes nothing.
 use Prim.Native.Nat.{ℕ}
 use mathlib.Core.List.{List, [], _∷_}
 use lib.Dec.{eqb}

@@ -12,6 +12,7 @@ use refusal::BEYOND_OFFER;
 use refusal::BODY_SIZE;
 use refusal::LENGTH_UNDER_16;
 use refusal::PING_OUT_OF_TURN;
+use refusal::VERSION_TOO_OLD;
 use wire::u8_at;
 ghost use mathlib.Core.Path.{_≡_};
 ghost use Rattle.link.specs.Next.{closedOf, closesOf, refusedOf, agreedAfter, versionAfter, afterOf};
@@ -31,6 +32,9 @@ fn closes(refusal: u8) -> bool
         return true;
     }
     if refusal == PING_OUT_OF_TURN {
+        return true;
+    }
+    if refusal == VERSION_TOO_OLD {
         return true;
     }
     if refusal < LENGTH_UNDER_16 {

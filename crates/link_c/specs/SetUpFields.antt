@@ -9,7 +9,7 @@ use Rattle.link_c.specs.declared.RelaySetUp.{RelaySetUp}
 unfoldable pub noLink : Link
 noLink =
     record {
-      set = record { server = false; allows = false };
+      set = record { server = false; allows = false; lowest = 0 };
       closed = true;
       crc32c = false;
       version = 0;

@@ -16,6 +16,7 @@ fn no_link() -> Link
         set: Settings {
             server: false,
             allows: false,
+            lowest: 0,
         },
         closed: true,
         crc32c: false,

@@ -1,6 +1,6 @@
-// Conversations of one link at a time, on the records of standard input. A record is an operation (1 byte) and its fields:
-// 0, a new link; 1, a receive call on given bytes; 2, a send call with a buffer of given size. A line has the answer, or
-// the refusal's number, and says whether the link is closed after it.
+// Conversations of one link at a time, on the records of standard input. A record is an operation (1 byte) and its
+// fields: 0, a new link; 1, a receive call on given bytes; 2, a send call with a buffer of given size; 3, a new link with
+// all its settings. A line has the answer, or the refusal's number, and says whether the link is closed after it.
 mod print;
 mod receiving;
 mod sending;
@@ -11,6 +11,8 @@ use link_state::Link;
 use link_state::SetUp;
 use link_state::Settings;
 use print::bytes;
+use print::refused;
+use space::fill;
 
 // The link after a record, and whether there was one.
 pub struct Turn {
@@ -18,36 +20,47 @@ pub struct Turn {
     pub more: bool,
 }
 
-fn new_link(old: Link, server: bool, allows: bool) -> Link {
-    match link_state::set_up(Settings { server, allows }) {
-        SetUp::Ready(link) => link,
-        SetUp::Refused(_) => old,
+// A link with these settings, or the old one where they are refused; and the line.
+fn set_up(old: Link, set: Settings) -> Link {
+    match link_state::set_up(set) {
+        SetUp::Ready(link) => {
+            bytes(b"link");
+            link
+        }
+        SetUp::Refused(n) => {
+            refused(n);
+            old
+        }
     }
 }
 
-// Operation 0: side (1; 1 is a server), whether CRC-32C is allowed (1).
-fn begin(old: Link) -> Turn {
-    let mut head = [0u8; 2];
-    if io::read_full(STDIN_FILENO, &mut head) < 2 {
+// Operations 0 and 3: side (1; 1 is a server), whether CRC-32C is allowed (1), lowest version (1), and 5 bytes for
+// settings to come. Only the first n bytes are there, and what is not there is 0.
+fn begin(old: Link, n: usize) -> Turn {
+    let mut head = [0u8; 8];
+    if !fill(&mut head, n) {
         return Turn {
             link: old,
             more: false,
         };
     }
-    let server = head[0] == 1;
-    let allows = head[1] == 1;
-    bytes(b"link");
+    let set = Settings {
+        server: head[0] == 1,
+        allows: head[1] == 1,
+        lowest: head[2],
+    };
     Turn {
-        link: new_link(old, server, allows),
+        link: set_up(old, set),
         more: true,
     }
 }
 
 fn operation(op: u8, link: Link, lent: &mut [u8]) -> Turn {
     match op {
-        0 => begin(link),
+        0 => begin(link, 2),
         1 => receiving::receive(link, lent),
-        _ => sending::send_record(link, lent),
+        2 => sending::send_record(link, lent),
+        _ => begin(link, 8),
     }
 }
 
@@ -83,6 +96,7 @@ fn main() {
     let set = Settings {
         server: false,
         allows: false,
+        lowest: 0,
     };
     match link_state::set_up(set) {
         SetUp::Ready(link) => records(link, lent),

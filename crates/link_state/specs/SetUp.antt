@@ -1,9 +1,13 @@
 -- A link before its opening (document 01, "Packets" and "Opening"). Assumes nothing.
+use Prim.Native.Nat.{ℕ}
 use mathlib.Core.Bool.{true, false}
+use mathlib.Core.List.{[], _∷_}
+use lib.Dec.{ltb}
+use Rattle.wire.specs.Choice.{first}
 use Rattle.link_state.specs.declared.Link.{Link}
 use Rattle.link_state.specs.declared.Settings.{Settings}
 use Rattle.link_state.specs.declared.SetUp.{SetUp}
-use Rattle.link_state.specs.declared.SetUp.the-variants.{Ready}
+use Rattle.link_state.specs.declared.SetUp.the-variants.{Ready, Refused}
 
 -- nothing went over it yet: "Each direction's first packet has number 4,294,967,294"
 unfoldable pub freshOf : Settings → Link
@@ -22,6 +26,6 @@ freshOf set =
       owed = 0;
     }
 
--- what set-up answers: the base refuses no settings
+-- what set-up answers: "30 for a lowest version above 2 when a link is set up" (document 02, A11)
 unfoldable pub setUpOf : Settings → SetUp
-setUpOf set = Ready (freshOf set)
+setUpOf set = first ((ltb 2 (set .lowest), Refused 30) ∷ []) (Ready (freshOf set))

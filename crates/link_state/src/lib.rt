@@ -5,10 +5,14 @@
 // what the caller gives with each call.
 mod turn;
 
+use refusal::OUT_OF_RANGE;
 pub use turn::may_send;
 pub use turn::stage_after;
 ghost use mathlib.Core.Path.{_≡_};
 ghost use Rattle.link_state.specs.SetUp.{freshOf, setUpOf};
+
+// The highest version that we write or, as client, accept; so a link's lowest one is at most this.
+pub const OUR_VERSION: u8 = 2;
 
 // How a link is set up; it does not change afterwards.
 #[repr(C)]
@@ -16,6 +20,8 @@ pub struct Settings {
     pub server: bool,
     // whether CRC-32C is offered by a client, or granted by a server
     pub allows: bool,
+    // the lowest version that the other side's Nonce may have, 0 to 2: 0 takes every version
+    pub lowest: u8,
 }
 
 // What the caller gives with each call.
@@ -73,9 +79,12 @@ fn fresh(set: Settings) -> Link
     }
 }
 
-// A link before its opening. No settings are refused yet.
+// A link before its opening, or 30 for a lowest version above ours.
 pub fn set_up(set: Settings) -> SetUp
     ensures { λ r. ⌜ r ≡ setUpOf set ⌝ }
 {
+    if OUR_VERSION < set.lowest {
+        return SetUp::Refused(OUT_OF_RANGE);
+    }
     SetUp::Ready(fresh(set))
 }

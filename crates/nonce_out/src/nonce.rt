@@ -1,6 +1,7 @@
 // Our Nonce: 60 bytes.
 use link_state::Link;
 use link_state::Moment;
+use link_state::OUR_VERSION;
 use packet::NONCE;
 use packet_out::Sent;
 use packet_out::seal;
@@ -16,9 +17,6 @@ ghost use mathlib.Core.Path.{_≡_};
 ghost use lib.ListN.{length};
 ghost use lib.Seq.{sets};
 ghost use Rattle.nonce_out.specs.Nonce.{versionOf, nonceHead, pointOf, nonceBody, nonceStep, nonceBuffer};
-
-// Our version.
-const OUR_VERSION: u8 = 2;
 
 // The version that we write: a server's is no higher than the client's.
 fn version(link: Link) -> u8

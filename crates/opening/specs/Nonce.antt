@@ -27,12 +27,14 @@ cipherRefused set b = pick (set .server) (eqb (le (part b 4 1)) 1) (not (eqb (le
 unfoldable pub beyondOf : Settings → ℕ → Bool
 beyondOf set version = not (set .server) && ltb 2 version
 
--- "opening body short; clocks; encryption; beyond our offer", in the order 7, 8, 9, 10
+-- "opening body short; clocks; encryption; beyond our offer", in the order 7, 8, 9, 10; a version below the link's lowest
+-- is 24, "after 8 and before 9" (document 02, A11)
 unfoldable pub nonceRefusal : Settings → List ℕ → Moment → ℕ
 nonceRefusal set b m =
     first (
     (ltb (length b) (leastOf (versionAt b)), 7) ∷
     (not (nearOf b m), 8) ∷
+    (ltb (versionAt b) (set .lowest), 24) ∷
     (cipherRefused set b, 9) ∷
     (beyondOf set (versionAt b), 10) ∷
     []

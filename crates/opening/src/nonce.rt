@@ -1,17 +1,16 @@
 // The other side's Nonce.
 use crate::times::near;
 use link_state::Moment;
+use link_state::OUR_VERSION;
 use link_state::Settings;
 use refusal::BEYOND_OFFER;
 use refusal::CLOCKS;
 use refusal::ENCRYPTION;
 use refusal::OPENING_SHORT;
+use refusal::VERSION_TOO_OLD;
 use wire::u8_at;
 ghost use mathlib.Core.Path.{_≡_};
 ghost use Rattle.opening.specs.Nonce.{leastOf, cipherRefused, beyondOf, nonceRefusal};
-
-// Our version.
-const OUR_VERSION: u8 = 2;
 
 // How long a Nonce's body of this version is at least.
 fn least(version: u8) -> usize
@@ -53,6 +52,9 @@ pub fn nonce_refusal(set: Settings, b: &[u8], moment: Moment) -> u8
     }
     if !near(b, moment) {
         return CLOCKS;
+    }
+    if version < set.lowest {
+        return VERSION_TOO_OLD;
     }
     if cipher_refused(set, b) {
         return ENCRYPTION;

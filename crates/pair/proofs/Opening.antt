@@ -14,7 +14,9 @@ use Rattle.wire.proofs.ByteLaws.{Small, length-bytes, le-bytes, part-mid}
 use Rattle.link_state.specs.declared.Link.{Link}
 use Rattle.link_state.specs.declared.Settings.{Settings}
 use Rattle.link_state.specs.declared.Moment.{Moment}
-use Rattle.link_state.specs.SetUp.{freshOf}
+use Rattle.link_state.specs.declared.SetUp.the-variants.{Ready}
+use Rattle.link_state.specs.SetUp.{freshOf, setUpOf}
+use Rattle.link_state.proofs.SetUpLaws.{set-up-takes}
 use Rattle.link_state.specs.Turn.{maySend, stageAfter}
 use Rattle.packet.specs.Sum.{castagnoliOf}
 use Rattle.packet.specs.Allowed.{allowedOf}
@@ -98,10 +100,10 @@ module _ (version time : ℕ) (random : List ℕ) where
       ap (λ (t : List ℕ). le (part t 8 4)) q ∙ field H (random ++ pointOf) time 8 e h
 
   -- a Nonce of ours passes, where the clocks are near
-  nonce-passes : (set : Settings) (m : Moment) → length random ≡ 16 → version ≤ 2 → time < 2 ^ 32 → isNear (clockOf time (m .time)) ≡ true
+  nonce-passes : (set : Settings) (m : Moment) → length random ≡ 16 → version ≤ 2 → set .lowest ≤ version → time < 2 ^ 32 → isNear (clockOf time (m .time)) ≡ true
       → nonceRefusal set (nonceBody version time random) m ≡ 0
   unfolding nonceRefusal leastOf cipherRefused beyondOf nearOf nonceClock
-  nonce-passes set m n v t near =
+  nonce-passes set m n v low t near =
       simp (
         length-nonce version time random n,
         nonce-version (omega arith),
@@ -109,6 +111,7 @@ module _ (version time : ℕ) (random : List ℕ) where
         nonce-time t,
         near,
         le-ltb 2 version v,
+        le-ltb version (set .lowest) low,
         ends (set .server),
         least (ltb version 2),
         off (set .server),
@@ -183,12 +186,12 @@ module _ (l k : Link) (kind : ℕ) (body b : List ℕ) (n : ℕ) (is : length bo
       sent-received l kind false body b k (n + 16) written a (ap (λ (x : ℕ). lengthRefusal k (x + 16)) is ∙ len) may number (omega arith) kind-fits g m ok
       ∙ ap (λ (x : ℕ). gives (afterOf k kind body m) (Packet kind (x + 16) 12 x)) is
 
-module _ (oc os : Bool) (c s : Caller) (b1 b2 b3 b4 : List ℕ) (g : Able c s b1 b2 b3 b4) where
+module _ (oc os : Bool) (lc ls : ℕ) (low-c : lc ≤ 2) (low-s : ls ≤ 2) (c s : Caller) (b1 b2 b3 b4 : List ℕ) (g : Able c s b1 b2 b3 b4) where
   abbrev C : Settings
-  C = record { server = false; allows = oc }
+  C = record { server = false; allows = oc; lowest = lc }
 
   abbrev S : Settings
-  S = record { server = true; allows = os }
+  S = record { server = true; allows = os; lowest = ls }
 
   abbrev c0 : Link
   c0 = during C false 0 0 4294967294 4294967294
@@ -230,7 +233,7 @@ module _ (oc os : Bool) (c s : Caller) (b1 b2 b3 b4 : List ℕ) (g : Able c s b1
   got1 =
       receives c0 s0 0x7acb87aa nonceC b1 60 (length-nonce 2 _ (c .random) (g .client-random)) (lit< tt) (g .room1) refl (s .moment)
       (record { number = refl; checksum = refl; turn = refl }) refl refl (lit< tt) (lit< tt) (small-nonce 2 (c .moment .time) (c .random) (g .client-bytes))
-      (nonce-passes 2 (c .moment .time) (c .random) S (s .moment) (g .client-random) (omega arith) (g .client-clock) (near (c .moment .time) (s .moment .time) (g .not-ahead) (g .not-behind)))
+      (nonce-passes 2 (c .moment .time) (c .random) S (s .moment) (g .client-random) (omega arith) low-s (g .client-clock) (near (c .moment .time) (s .moment .time) (g .not-ahead) (g .not-behind)))
       ∙ rw (nonce-version 2 (c .moment .time) (c .random) (lit< tt))
 
   -- the server's Nonce
@@ -243,7 +246,7 @@ module _ (oc os : Bool) (c s : Caller) (b1 b2 b3 b4 : List ℕ) (g : Able c s b1
   got2 =
       receives s1 c1 0x7acb87aa nonceS b2 60 (length-nonce 2 _ (s .random) (g .server-random)) (lit< tt) (g .room2) refl (c .moment)
       (record { number = refl; checksum = refl; turn = refl }) refl refl (lit< tt) (lit< tt) (small-nonce 2 (s .moment .time) (s .random) (g .server-bytes))
-      (nonce-passes 2 (s .moment .time) (s .random) C (c .moment) (g .server-random) (omega arith) (g .server-clock) (near (s .moment .time) (c .moment .time) (g .not-behind) (g .not-ahead)))
+      (nonce-passes 2 (s .moment .time) (s .random) C (c .moment) (g .server-random) (omega arith) low-c (g .server-clock) (near (s .moment .time) (c .moment .time) (g .not-behind) (g .not-ahead)))
       ∙ rw (nonce-version 2 (s .moment .time) (s .random) (lit< tt))
 
   -- the client's Handshake
@@ -291,6 +294,10 @@ module _ (oc os : Bool) (c s : Caller) (b1 b2 b3 b4 : List ℕ) (g : Able c s b1
   swap true false = refl
   swap false true = refl
   swap false false = refl
+
+  -- set-up hands such links out: it takes every lowest version up to 2
+  pub set-ups : (setUpOf C ≡ Ready (freshOf C)) × (setUpOf S ≡ Ready (freshOf S))
+  set-ups = (set-up-takes C low-c, set-up-takes S low-s)
 
   -- the exchange of two fresh links
   abbrev exchange : Opened

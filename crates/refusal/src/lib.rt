@@ -49,7 +49,9 @@ pub const PING_OUT_OF_TURN: u8 = 21;
 
 pub const NOT_OUR_TURN: u8 = 22;
 
-// The table of requests in flight.
+pub const VERSION_TOO_OLD: u8 = 24;
+
+// The table of requests in flight; 30 also of a link that is set up.
 pub const OUT_OF_RANGE: u8 = 30;
 
 pub const IN_FLIGHT_ALREADY: u8 = 31;

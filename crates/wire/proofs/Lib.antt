@@ -1,3 +1,4 @@
 pub mod ByteLaws
 pub mod StoreLaws
 pub mod SignLaws
+pub mod ChoiceLaws

@@ -20,10 +20,9 @@ pub struct Connection {
 }
 
 impl Connection {
-    pub fn new(peer: Peer, opening: Opening) -> Result<Connection, Refusal> {
-        let side = side_towards(peer);
+    pub fn new(settings: Settings, opening: Opening) -> Result<Connection, Refusal> {
         Ok(Connection {
-            link: Link::new(Settings { side, crc32c: true })?,
+            link: Link::new(settings)?,
             input: Vec::new(),
             opening,
             fin: false,

@@ -6,10 +6,11 @@
 use crate::connection::{side_towards, Connection};
 use crate::counts::Counts;
 use crate::event::{Action, Event, Peer};
+use crate::settings;
 use relay::packet_type::{HANDSHAKE, NONCE, PING, PONG};
 use relay::{
-    read_message, Answer, Arrival, Message, Moment, PublisherNumber, Refusal, Table, ToSend, LINKS,
-    PUBLISHERS,
+    read_message, Answer, Arrival, Message, Moment, PublisherNumber, Refusal, Settings, Table,
+    ToSend, LINKS, PUBLISHERS,
 };
 
 /// More than any packet has besides its payload or text.
@@ -19,6 +20,8 @@ pub struct Core {
     pub(crate) table: Table,
     fronts: [Option<Connection>; LINKS as usize],
     publishers: [Option<Connection>; PUBLISHERS as usize],
+    /// Of the links to the publishers.
+    settings: [Settings; PUBLISHERS as usize],
     pub(crate) actions: Vec<Action>,
     pub(crate) counts: Counts,
     moment: Moment,
@@ -27,12 +30,14 @@ pub struct Core {
 }
 
 impl Core {
-    pub fn new() -> Core {
+    /// With the settings of the links to the publishers.
+    pub fn new(settings: [Settings; PUBLISHERS as usize]) -> Core {
         Core {
             // Every number from 1 on is accepted here.
             table: Table::new(PublisherNumber(1)).expect("1 is a first number"),
             fronts: std::array::from_fn(|_| None),
             publishers: std::array::from_fn(|_| None),
+            settings,
             actions: Vec::new(),
             counts: Counts::default(),
             moment: Moment { time: 0 },
@@ -60,6 +65,14 @@ impl Core {
         match peer {
             Peer::Front(link) => self.fronts.get_mut(usize::from(link)),
             Peer::Publisher(publisher) => self.publishers.get_mut(usize::from(publisher)),
+        }
+    }
+
+    /// Of the link to a peer; none if there is no such publisher.
+    pub(crate) fn settings(&self, peer: Peer) -> Option<Settings> {
+        match peer {
+            Peer::Front(_) => Some(settings::FRONT),
+            Peer::Publisher(publisher) => self.settings.get(usize::from(publisher)).copied(),
         }
     }
 
@@ -96,7 +109,10 @@ impl Core {
                     used += consumed;
                     self.packet(peer, kind, body);
                 }
-                Arrival::Refused(_) => return self.close(peer),
+                Arrival::Refused(refusal) => {
+                    self.counts.too_old += u64::from(refusal == Refusal::VERSION_TOO_OLD);
+                    return self.close(peer);
+                }
             }
         }
     }
@@ -163,12 +179,6 @@ impl Core {
                 Peer::Publisher(publisher) => self.publisher_lost(publisher),
             }
         }
-    }
-}
-
-impl Default for Core {
-    fn default() -> Core {
-        Core::new()
     }
 }
 

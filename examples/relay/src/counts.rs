@@ -28,6 +28,8 @@ pub struct Counts {
     pub pongs: u64,
     /// Connections that we ended: refused packets, no sign of life, fin.
     pub dropped: u64,
+    /// Those of them whose Nonce had a version below the lowest (24).
+    pub too_old: u64,
 }
 
 impl Counts {
@@ -54,6 +56,7 @@ impl fmt::Display for Counts {
             ("pings", self.pings),
             ("pongs", self.pongs),
             ("dropped", self.dropped),
+            ("too_old", self.too_old),
         ];
         write!(f, "counts")?;
         for (name, count) in named {

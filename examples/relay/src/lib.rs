@@ -5,6 +5,7 @@
 //! rules of links, messages and the table are the library's (crate `relay`).
 //! `network` moves the bytes, with threads and the standard library only.
 
+pub mod arguments;
 mod connection;
 pub mod core;
 pub mod counts;
@@ -13,3 +14,4 @@ mod forward;
 mod keep_alive;
 pub mod network;
 mod opening;
+pub mod settings;

@@ -6,7 +6,7 @@ mod connect;
 mod serve;
 mod stream;
 
-pub use serve::{serve, Options};
+pub use serve::{serve, Options, Publisher};
 
 use crate::event::Peer;
 use std::net::TcpStream;

@@ -10,8 +10,10 @@ impl Core {
     /// As client we begin the opening.
     pub(crate) fn connected(&mut self, peer: Peer, opening: Opening) {
         self.gone(peer);
-        match (Connection::new(peer, opening), self.slot(peer)) {
-            (Ok(connection), Some(slot)) => *slot = Some(connection),
+        let settings = self.settings(peer);
+        let connection = settings.and_then(|settings| Connection::new(settings, opening).ok());
+        match (connection, self.slot(peer)) {
+            (Some(connection), Some(slot)) => *slot = Some(connection),
             _ => return self.actions.push(Action::Close(peer)),
         }
         if side_towards(peer) == Side::Client {

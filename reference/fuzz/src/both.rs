@@ -3,12 +3,11 @@
 
 use crate::compare::{same, Compared, Difference};
 use crate::counts::Counts;
-use crate::draw;
 use crate::messages;
-use reference::link::{packet, Link, Outgoing, Received, State};
+use reference::link::{packet, Link, Outgoing, Received, Settings, State};
 use reference::message::{Message, Outcome, Side, Span};
 use relay::raw;
-use relay::{clock_difference, Arrival, Moment, NetPid, Settings, ToSend};
+use relay::{clock_difference, Arrival, Moment, NetPid, ToSend};
 
 #[derive(Clone)]
 pub struct End {
@@ -38,16 +37,19 @@ pub fn our_side(side: Side) -> relay::Side {
     }
 }
 
+/// The same settings for our library.
+pub fn our_settings(settings: Settings) -> relay::Settings {
+    relay::Settings::new(our_side(settings.side), settings.crc32c_allowed)
+        .with_lowest(settings.lowest_version)
+}
+
 impl End {
-    pub fn new(side: Side, crc32c: bool) -> End {
-        let settings = Settings {
-            side: our_side(side),
-            crc32c,
-        };
+    /// For settings that are not refused.
+    pub fn new(settings: Settings) -> End {
         End {
-            side,
-            ours: relay::Link::new(settings).expect("no settings are refused"),
-            second: Link::new(side, crc32c),
+            side: settings.side,
+            ours: relay::Link::new(our_settings(settings)).expect("a link of ours"),
+            second: Link::set_up(settings).expect("a link of the second program"),
         }
     }
 
@@ -128,8 +130,21 @@ impl End {
     }
 }
 
-fn state(link: &raw::Link) -> State {
+fn settings(set: raw::Settings) -> Settings {
+    let side = if set.server {
+        Side::Server
+    } else {
+        Side::Client
+    };
+    Settings {
+        lowest_version: set.lowest,
+        ..Settings::new(side, set.allows)
+    }
+}
+
+pub fn state(link: &raw::Link) -> State {
     State {
+        settings: settings(link.set),
         closed: link.closed,
         stage: link.stage,
         incoming: link.gets,
@@ -238,15 +253,11 @@ fn shown(what: &Outgoing) -> String {
 
 /// Two ends of one connection that have opened as far as `stage`.
 pub fn opened(
-    settings: [bool; 2],
+    settings: [Settings; 2],
     stage: usize,
     counts: &mut Counts,
 ) -> Result<[End; 2], Difference> {
-    let [client, server] = settings;
-    let mut ends = [
-        End::new(Side::Client, client),
-        End::new(Side::Server, server),
-    ];
+    let mut ends = settings.map(End::new);
     let time = 1_700_000_000;
     let nonce = Outgoing::Nonce(time, [7; 16]);
     let handshake = Outgoing::Handshake([1; 12], [2; 12]);
@@ -260,9 +271,4 @@ pub fn opened(
         ends[1 - i % 2].receive(&packet, time, counts)?;
     }
     Ok(ends)
-}
-
-/// A random pair of settings.
-pub fn settings(g: &mut reference::generator::Generator) -> [bool; 2] {
-    [draw::coin(g), draw::coin(g)]
 }

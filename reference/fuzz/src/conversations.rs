@@ -39,13 +39,9 @@ fn base_time(g: &mut Generator) -> u32 {
 
 impl Pair {
     fn new(g: &mut Generator) -> Pair {
-        let [client, server] = both::settings(g);
+        let ends = draw::settings(g).map(End::new);
         let time = base_time(g);
         let skew = g.pick(&[0, 0, 1, 7, 29, 30, 30, 31]);
-        let ends = [
-            End::new(reference::message::Side::Client, client),
-            End::new(reference::message::Side::Server, server),
-        ];
         let times = [time, time.wrapping_add(skew)];
         Pair {
             ends,
@@ -165,7 +161,7 @@ fn narrow_room(g: &mut Generator, end: &End, what: &Outgoing) -> usize {
 
 /// One end, whose sends go nowhere, and packets made for it.
 fn against_a_stranger(g: &mut Generator, counts: &mut Counts) -> Compared {
-    let settings = both::settings(g);
+    let settings = draw::settings(g);
     let stage = g.pick(&[0, 0, 0, 1, 2, 3, 4, 4, 4, 4]);
     let ends = both::opened(settings, stage, counts)?;
     let mut end = ends[g.below(2) as usize].clone();

@@ -1,7 +1,8 @@
-//! Random parts of messages and packets, with a liking for the edges.
+//! Random settings and parts of messages and packets, with a liking for the
+//! edges.
 
 use reference::generator::Generator;
-use reference::link::Outgoing;
+use reference::link::{Outgoing, Settings};
 use reference::message::values as v;
 use reference::message::{Invoke, Message, Outcome, Side};
 
@@ -23,6 +24,14 @@ pub fn other(side: Side) -> Side {
         Side::Client => Side::Server,
         Side::Server => Side::Client,
     }
+}
+
+/// Settings of a client and of a server that no set-up refuses.
+pub fn settings(g: &mut Generator) -> [Settings; 2] {
+    [Side::Client, Side::Server].map(|side| Settings {
+        lowest_version: g.pick(&[0, 1, 2]),
+        ..Settings::new(side, coin(g))
+    })
 }
 
 /// All ten values that have a meaning at the front of a payload.

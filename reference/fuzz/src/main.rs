@@ -17,6 +17,7 @@ mod messages;
 mod options;
 mod packets;
 mod sends;
+mod set_ups;
 mod tables;
 mod types;
 
@@ -82,7 +83,8 @@ fn one(seed: u64, case: u64, counts: &mut Counts) -> Compared {
     match g.below(100) {
         0..2 => checksums::case(g, counts),
         2..4 => clocks::case(g, counts),
-        4..35 => messages::case(g, counts),
+        4..6 => set_ups::case(g, counts),
+        6..35 => messages::case(g, counts),
         35..70 => conversations::case(g, counts),
         70..80 => sends::case(g, counts),
         80..85 => types::case(g, counts),

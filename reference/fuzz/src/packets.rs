@@ -52,7 +52,7 @@ fn with_message(g: &mut Generator, to: &End) -> Vec<u8> {
 
 /// Versions, encryptions, clocks and lengths on either side of each line.
 fn nonce(g: &mut Generator, time: u32) -> Vec<u8> {
-    let version = g.pick(&[0, 1, 2, 2, 2, 3, 255]);
+    let version = g.pick(&[0, 0, 1, 1, 2, 2, 2, 3, 255]);
     let far = g.pick(&[0, 0, 1, -1, 29, 30, -30, 31, -31, i32::MAX, i32::MIN]);
     let theirs = time.wrapping_add(far as u32);
     let mut body = nonce_body(version, theirs, draw::array(g));

@@ -15,7 +15,7 @@ use std::sync::OnceLock;
 const LONGEST_BODY: usize = 16_777_215 - 16;
 
 pub fn case(g: &mut Generator, counts: &mut Counts) -> Compared {
-    let settings = both::settings(g);
+    let settings = draw::settings(g);
     let stage = g.pick(&[0, 1, 2, 3, 4, 4, 4, 4, 4, 4]);
     let ends = both::opened(settings, stage, counts)?;
     let from = g.below(2) as usize;

@@ -26,7 +26,7 @@ const KNOWN: [u32; 9] = [
 ];
 
 pub fn case(g: &mut Generator, counts: &mut Counts) -> Compared {
-    let settings = both::settings(g);
+    let settings = draw::settings(g);
     let stage = g.below(5) as usize;
     let mut end = both::opened(settings, stage, counts)?[g.below(2) as usize].clone();
     if draw::one_in(g, 4) {

@@ -73,6 +73,14 @@ impl Nonce {
         Ok(clock)
     }
 
+    /// Either side may refuse to speak versions that are too old for it.
+    pub fn judge_lowest(&self, lowest: u8) -> Result<(), Refusal> {
+        if self.version < lowest {
+            return Err(Refusal::VersionTooLow);
+        }
+        Ok(())
+    }
+
     /// A client asks for encryption with 1 and leaves the choice to us with
     /// 2 and more; a server's choice must be 0, none.
     pub fn judge_encryption(&self, reader: Side) -> Result<(), Refusal> {

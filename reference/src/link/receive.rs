@@ -8,9 +8,9 @@ use crate::refusal::Refusal;
 
 impl Link {
     /// Looks at the lent bytes from their front. In order: 20, 22, 1, 3, 2, 4,
-    /// 5, 6, then 7 to 10 or 17, 21; all but 20 and 22 close the link.
+    /// 5, 6, then 7, 8, 24, 9, 10 or 17, 21; all but 20 and 22 close the link.
     pub fn receive(&mut self, bytes: &[u8], our_time: u32) -> Result<Received, Refusal> {
-        let peer = match self.side {
+        let peer = match self.settings.side {
             Side::Client => Side::Server,
             Side::Server => Side::Client,
         };
@@ -68,8 +68,9 @@ impl Link {
     fn accept_nonce(&mut self, body: &[u8], our_time: u32) -> Result<i64, Refusal> {
         let nonce = Nonce::read(body)?;
         let clock = nonce.clock(our_time)?;
-        nonce.judge_encryption(self.side)?;
-        nonce.judge_version(self.side)?;
+        nonce.judge_lowest(self.settings.lowest_version)?;
+        nonce.judge_encryption(self.settings.side)?;
+        nonce.judge_version(self.settings.side)?;
         self.their_version = nonce.version;
         self.stage = self.stage.after();
         Ok(clock)
@@ -77,10 +78,12 @@ impl Link {
 
     fn accept_handshake(&mut self, body: &[u8]) -> Result<(), Refusal> {
         let flag = opening::read_handshake(body)?;
-        match self.side {
+        match self.settings.side {
             Side::Server => self.crc32c_offered = flag,
             // We offered it if our setting allows it.
-            Side::Client if flag && !self.crc32c_allowed => return Err(Refusal::BeyondOffer),
+            Side::Client if flag && !self.settings.crc32c_allowed => {
+                return Err(Refusal::BeyondOffer)
+            }
             Side::Client => self.switch_checksum(flag),
         }
         self.stage = self.stage.after();

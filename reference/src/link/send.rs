@@ -9,7 +9,7 @@ impl Link {
     /// Writes the packet at the front of `buffer` and hands back its size. In
     /// order: 20, 22, 5, 21, 19, 12, 15, 2, 16; none closes or moves the link.
     pub fn send(&mut self, outgoing: &Outgoing, buffer: &mut [u8]) -> Result<usize, Refusal> {
-        self.is_turn_of(self.side)?;
+        self.is_turn_of(self.settings.side)?;
         let packet_type = outgoing.packet_type();
         if !self.type_is_allowed(packet_type) {
             return Err(Refusal::TypeNotNow);
@@ -34,14 +34,16 @@ impl Link {
                 let id = self.owed.ok_or(Refusal::PingOutOfTurn)?;
                 Ok(id.to_le_bytes().to_vec())
             }
-            Outgoing::Message(message) if message.sender() != self.side => Err(Refusal::NotThisWay),
+            Outgoing::Message(message) if message.sender() != self.settings.side => {
+                Err(Refusal::NotThisWay)
+            }
             Outgoing::Message(message) => message::body(message),
         }
     }
 
     /// The version that our Nonce bears.
     fn version(&self) -> u8 {
-        match self.side {
+        match self.settings.side {
             Side::Client => OUR_VERSION,
             Side::Server => self.their_version.min(OUR_VERSION),
         }
@@ -49,9 +51,9 @@ impl Link {
 
     /// Whether our Handshake sets the flag for CRC-32C.
     fn sets_flag(&self) -> bool {
-        match self.side {
-            Side::Client => self.crc32c_allowed,
-            Side::Server => self.crc32c_allowed && self.crc32c_offered,
+        match self.settings.side {
+            Side::Client => self.settings.crc32c_allowed,
+            Side::Server => self.settings.crc32c_allowed && self.crc32c_offered,
         }
     }
 
@@ -60,7 +62,7 @@ impl Link {
         match outgoing {
             Outgoing::Nonce(..) => self.stage = self.stage.after(),
             Outgoing::Handshake(..) => {
-                if self.side == Side::Server {
+                if self.settings.side == Side::Server {
                     self.switch_checksum(self.sets_flag());
                 }
                 self.stage = self.stage.after();

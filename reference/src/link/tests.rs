@@ -1,3 +1,5 @@
+mod versions;
+
 use super::*;
 use crate::message::values;
 use crate::message::{Invoke, Outcome};

@@ -23,14 +23,14 @@ pub fn push(records: &mut Vec<u8>, generator: &mut Generator) {
 }
 
 /// A Nonce body with the fields that are heeded.
-fn nonce(encryption: u8, version: u8, time: u32) -> Vec<u8> {
+pub fn nonce(encryption: u8, version: u8, time: u32) -> Vec<u8> {
     let mut body = nonce_body(version, time, *b"theirs: sixteen.");
     body[4] = encryption;
     body
 }
 
 /// Cut or drawn out to `size`.
-fn sized(mut body: Vec<u8>, size: usize, generator: &mut Generator) -> Vec<u8> {
+pub fn sized(mut body: Vec<u8>, size: usize, generator: &mut Generator) -> Vec<u8> {
     while body.len() < size {
         body.push(generator.byte());
     }
@@ -38,14 +38,17 @@ fn sized(mut body: Vec<u8>, size: usize, generator: &mut Generator) -> Vec<u8> {
     body
 }
 
+pub fn store_nonce(records: &mut Vec<u8>, side: Side, body: &[u8]) {
+    store_answered(records, Talk::new(side, (true, true)), body);
+}
+
 /// The link gets this Nonce; if it takes it, the opening goes on, so that the
 /// version it answers with is seen.
-fn store_nonce(records: &mut Vec<u8>, side: Side, body: &[u8]) {
-    let packets = usize::from(side == Side::Client);
-    let mut talk = Talk::after(packets, side, (true, true));
+pub fn store_answered(records: &mut Vec<u8>, mut talk: Talk, body: &[u8]) {
+    talk.open_until(usize::from(talk.side == Side::Client));
     talk.receive_forged(NONCE, body);
     if !talk.is_closed() {
-        talk.send(&match side {
+        talk.send(&match talk.side {
             Side::Client => Sending::handshake(),
             Side::Server => Sending::nonce(TIME),
         });

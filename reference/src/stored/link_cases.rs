@@ -5,8 +5,13 @@
 //! 1 server) and whether CRC-32C is allowed. Op 1 receives: our time (4 bytes),
 //! then n (4 bytes) and the n bytes lent. Op 2 sends: see `Sending`; its line
 //! has both checksums of the whole lent buffer, since a checksum over a packet
-//! that ends with the same one is the same for every packet. A line ends with
-//! ` closed` if the link is closed after the op.
+//! that ends with the same one is the same for every packet. Op 3 is a link set
+//! up with every setting: see `link_settings`; if that is refused, the newest
+//! link stays as it was. A line ends with ` closed` if the newest link is
+//! closed after the op.
+//!
+//! The conversations of a later request come behind all earlier ones, whose
+//! bytes stay.
 
 use super::link_bodies;
 use super::link_closing;
@@ -15,18 +20,20 @@ use super::link_openings;
 use super::link_pings;
 use super::link_random;
 use super::link_sending::Sending;
+use super::link_settings;
 use super::link_turns;
+use super::link_versions;
 use super::message_cases::FILLING;
 use super::records::Records;
 use crate::checksum::{CRC32, CRC32C};
 use crate::generator::Generator;
 use crate::link::{Link, Received};
-use crate::message::Side;
 use crate::refusal::Refusal;
 
 pub const NEW: u8 = 0;
 pub const RECEIVE: u8 = 1;
 pub const SEND: u8 = 2;
+pub const SET_UP: u8 = 3;
 
 pub fn input() -> Vec<u8> {
     let mut generator = Generator::new(0x11_4B);
@@ -38,6 +45,7 @@ pub fn input() -> Vec<u8> {
     link_turns::push(&mut records, &mut generator);
     link_closing::push(&mut records);
     link_random::push(&mut records, &mut generator);
+    link_versions::push(&mut records);
     records
 }
 
@@ -51,6 +59,10 @@ pub fn output(records: &[u8]) -> Vec<u8> {
                 link = Some(new_link(&mut records));
                 Ok("link".to_string())
             }
+            (SET_UP, _) => Link::set_up(link_settings::take(&mut records)).map(|new| {
+                link = Some(new);
+                "link".to_string()
+            }),
             (RECEIVE, Some(link)) => receive_line(link, &mut records),
             (SEND, Some(link)) => send_line(link, &mut records),
             _ => unreachable!("op {op}, or no link before it"),
@@ -65,11 +77,7 @@ pub fn output(records: &[u8]) -> Vec<u8> {
 }
 
 fn new_link(records: &mut Records) -> Link {
-    let side = if records.flag() {
-        Side::Server
-    } else {
-        Side::Client
-    };
+    let side = link_settings::take_side(records);
     Link::new(side, records.flag())
 }
 
@@ -117,13 +125,48 @@ mod tests {
             text.lines().filter(words).count()
         };
         let by_receive = (1..=10).chain([17, 20, 21, 22]);
-        for refusal in by_receive.chain([12, 15, 16, 19]) {
+        for refusal in by_receive.chain([12, 15, 16, 19, 24, 30]) {
             let part = format!("no {refusal} ");
             assert!(count(&part) >= 20, "{part}: {}", count(&part));
         }
         for part in ["link ", "wait ", "packet ", "sent "] {
             assert!(count(part) >= 500, "{part}: {}", count(part));
         }
+    }
+
+    /// What was stored before links had lowest versions: size and CRC-32 of
+    /// input and output.
+    const BASE_INPUT: (usize, u32) = (1_603_482, 0x6E4E_8C57);
+    const BASE_OUTPUT: (usize, u32) = (483_550, 0xF642_C1D6);
+
+    #[test]
+    fn the_base_stays_in_front() {
+        let input = input();
+        for (bytes, (size, sum)) in [(&input, BASE_INPUT), (&output(&input), BASE_OUTPUT)] {
+            assert_eq!(CRC32.of(&bytes[..size]), sum);
+        }
+        assert_eq!(input[BASE_INPUT.0], SET_UP);
+    }
+
+    #[test]
+    fn a_refused_set_up_leaves_the_newest_link() {
+        let refused = [SET_UP, 1, 0, 3, 0, 0, 0, 0, 0];
+        let taken = [SET_UP, 1, 0, 2, 0, 0, 0, 0, 0];
+        // A length of 1 closes the link.
+        let closing = [RECEIVE, 0, 0, 0, 0, 4, 0, 0, 0, 1, 0, 0, 0];
+        let nothing = [RECEIVE, 0, 0, 0, 0, 0, 0, 0, 0];
+        let records = [
+            &refused[..],
+            &taken,
+            &refused,
+            &nothing,
+            &closing,
+            &refused,
+            &taken,
+        ];
+        let lines = String::from_utf8(output(&records.concat())).unwrap();
+        let expected = "no 30\nlink\nno 30\nwait 4\nno 1 closed\nno 30 closed\nlink\n";
+        assert_eq!(lines, expected);
     }
 
     #[test]

@@ -17,7 +17,7 @@ pub fn push(records: &mut Vec<u8>) {
 
 /// A whole packet, another beginning and nothing; then everything to send,
 /// with room and without.
-fn after(records: &mut Vec<u8>, mut talk: Talk) {
+pub fn after(records: &mut Vec<u8>, mut talk: Talk) {
     talk.receive_forged(PING, &[0; 8]);
     talk.receive(&[1, 0, 0, 0]);
     talk.receive(&[]);

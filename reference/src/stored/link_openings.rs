@@ -11,7 +11,7 @@ use crate::message::Side;
 pub fn push(records: &mut Vec<u8>, generator: &mut Generator) {
     for side in SIDES {
         for settings in SETTINGS {
-            whole(records, side, settings);
+            whole(records, Talk::new(side, settings));
         }
         clocks(records, side);
     }
@@ -26,8 +26,8 @@ pub fn push(records: &mut Vec<u8>, generator: &mut Generator) {
 }
 
 /// An opening and one of everything after it, both ways.
-fn whole(records: &mut Vec<u8>, side: Side, settings: (bool, bool)) {
-    let mut talk = Talk::after(OPEN, side, settings);
+pub fn whole(records: &mut Vec<u8>, mut talk: Talk) {
+    talk.open_until(OPEN);
     let invoke = Draft::new(records::INVOKE, 5).actor(6).timeout(7);
     talk.pass(Side::Client, &Sending::message(invoke, b"payload"));
     talk.pass(Side::Client, &Sending::message(invoke.tl2(true), b""));

@@ -1,11 +1,13 @@
 //! A conversation in the making: the link whose calls are stored, and a peer
 //! that gives the bytes it receives.
 
-use super::link_cases::{NEW, RECEIVE, SEND};
+use super::link_cases::{NEW, RECEIVE, SEND, SET_UP};
 use super::link_sending::Sending;
+use super::link_settings;
 use super::message_cases::LONGEST;
 use super::records::{self, other, push_run, Draft};
-use crate::link::{handshake_body, nonce_body, packet, Link, OUR_VERSION};
+use crate::checksum::Polynomial;
+use crate::link::{handshake_body, nonce_body, packet, Link, Settings, OUR_VERSION};
 use crate::message::Side;
 use crate::refusal::Refusal;
 
@@ -34,14 +36,37 @@ pub struct Talk {
 
 impl Talk {
     pub fn new(side: Side, (ours, theirs): (bool, bool)) -> Talk {
+        let record = vec![NEW, (side == Side::Server).into(), ours.into()];
+        let peer = Settings::new(other(side), theirs);
+        Talk::begin(record, Settings::new(side, ours), peer)
+    }
+
+    /// Of two links with all their settings: ours, that is stored, and the
+    /// peer's.
+    pub fn set_up(ours: Settings, theirs: Settings) -> Talk {
+        let mut record = vec![SET_UP];
+        link_settings::push(&mut record, ours);
+        Talk::begin(record, ours, theirs)
+    }
+
+    fn begin(record: Vec<u8>, ours: Settings, theirs: Settings) -> Talk {
+        let link = |settings| Link::set_up(settings).expect("settings of a talk are sound");
         Talk {
-            side,
+            side: ours.side,
             time: TIME,
-            link: Link::new(side, ours),
-            peer: Link::new(other(side), theirs),
+            link: link(ours),
+            peer: link(theirs),
             opened: 0,
-            records: vec![NEW, (side == Side::Server).into(), ours.into()],
+            records: record,
         }
+    }
+
+    /// A set-up that is refused: the link of this conversation stays the
+    /// newest.
+    pub fn refused_set_up(&mut self, settings: Settings) {
+        assert!(Link::set_up(settings).is_err());
+        self.records.push(SET_UP);
+        link_settings::push(&mut self.records, settings);
     }
 
     /// With the first `packets` of the opening exchanged.
@@ -149,7 +174,7 @@ impl Talk {
     /// A packet with the number and checksum that the link expects, whatever
     /// the peer would send.
     pub fn forged(&self, packet_type: u32, body: &[u8]) -> Vec<u8> {
-        let (number, checksum) = self.link.expected();
+        let (number, checksum) = self.expected();
         packet::whole(number, packet_type, body, checksum)
     }
 
@@ -180,7 +205,12 @@ impl Talk {
 
     /// The number that the link expects.
     pub fn number(&self) -> u32 {
-        self.link.expected().0
+        self.expected().0
+    }
+
+    /// And the checksum.
+    pub fn expected(&self) -> (u32, Polynomial) {
+        self.link.expected()
     }
 
     pub fn is_closed(&self) -> bool {

@@ -44,7 +44,14 @@ fn structs() -> Vec<String> {
                 len
             }
         ),
-        lines!(relay_settings, Settings { server, allows }),
+        lines!(
+            relay_settings,
+            Settings {
+                server,
+                allows,
+                lowest
+            }
+        ),
         lines!(relay_moment, Moment { time }),
         lines!(
             relay_link,

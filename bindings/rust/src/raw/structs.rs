@@ -24,6 +24,7 @@ pub struct Message {
 pub struct Settings {
     pub server: bool,
     pub allows: bool,
+    pub lowest: u8,
 }
 
 #[repr(C)]

@@ -5,9 +5,13 @@
 mod links;
 mod messages;
 mod sends;
+mod settings;
 mod tables;
 
 use super::*;
+
+/// The number of each direction's first packet.
+const FIRST_PACKET: u32 = u32::MAX - 1;
 
 /// A packet under CRC-32.
 fn packet(number: u32, kind: u32, body: &[u8]) -> Vec<u8> {
@@ -22,8 +26,29 @@ fn packet(number: u32, kind: u32, body: &[u8]) -> Vec<u8> {
     packet
 }
 
+/// The body of a Nonce.
+fn nonce(version: u8, time: u32) -> Vec<u8> {
+    let mut body = vec![0; 60];
+    body[5] = version;
+    body[8..12].copy_from_slice(&time.to_le_bytes());
+    body
+}
+
+/// Every other setting as if it is not said.
+const fn settings(server: bool, allows: bool) -> Settings {
+    Settings {
+        server,
+        allows,
+        lowest: 0,
+    }
+}
+
+fn set_up(settings: Settings) -> SetUp {
+    unsafe { relay_set_up(settings) }
+}
+
 fn link(server: bool, allows: bool) -> Link {
-    let answer = unsafe { relay_set_up(Settings { server, allows }) };
+    let answer = set_up(settings(server, allows));
     assert_eq!(answer.refusal, 0);
     answer.link
 }

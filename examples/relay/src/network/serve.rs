@@ -4,7 +4,7 @@ use super::stream::{self, Writer};
 use super::{connect, Input};
 use crate::core::Core;
 use crate::event::{Action, Event, Opening, Peer};
-use relay::{NetPid, LINKS};
+use relay::{NetPid, Settings, LINKS, PUBLISHERS};
 use std::collections::HashMap;
 use std::fs::File;
 use std::io::{self, Read, Write};
@@ -16,8 +16,15 @@ use std::time::{Duration, SystemTime, UNIX_EPOCH};
 /// Inputs that may wait for the core; then readers wait, and so do peers.
 const INPUTS: usize = 256;
 
+/// Where a publisher is, and how the link to it is set up.
+#[derive(Clone, Copy, Debug, PartialEq, Eq)]
+pub struct Publisher {
+    pub address: SocketAddr,
+    pub settings: Settings,
+}
+
 pub struct Options {
-    pub publishers: [SocketAddr; 8],
+    pub publishers: [Publisher; PUBLISHERS as usize],
     /// Between two attempts to reach a publisher.
     pub retry: Duration,
     /// The interval of the keep-alive.
@@ -38,14 +45,14 @@ struct Server {
 pub fn serve(listener: TcpListener, options: &Options) -> io::Result<()> {
     let (inputs, queue) = sync_channel(INPUTS);
     let mut server = Server {
-        core: Core::new(),
+        core: Core::new(options.publishers.map(|publisher| publisher.settings)),
         connections: HashMap::new(),
         inputs: inputs.clone(),
         next_serial: 0,
         random: File::open("/dev/urandom")?,
         start: clock(),
     };
-    for (publisher, address) in (0..).zip(options.publishers) {
+    for (publisher, Publisher { address, .. }) in (0..).zip(options.publishers) {
         let (retry, inputs) = (options.retry, inputs.clone());
         thread::spawn(move || connect::keep_connected(publisher, address, retry, &inputs));
     }

@@ -4,6 +4,7 @@ mod connections;
 #[path = "../other_end/mod.rs"]
 mod other_end;
 mod requests;
+mod versions;
 mod world;
 
 use reference::message::{Invoke, Message, Outcome};

@@ -3,9 +3,10 @@
 
 use crate::other_end::{clock, Got, OtherEnd};
 use reference::message::{Invoke, Message, Side};
-use relay::{NetPid, LINKS, PUBLISHERS};
+use relay::{NetPid, Settings, LINKS, PUBLISHERS};
 use relay_example::core::Core;
 use relay_example::event::{Action, Event, Opening, Peer};
+use relay_example::settings;
 use std::collections::VecDeque;
 
 const NOBODY: NetPid = NetPid {
@@ -35,13 +36,18 @@ pub struct World {
 
 impl World {
     pub fn new() -> World {
+        World::with_publishers([settings::PUBLISHER; PUBLISHERS as usize])
+    }
+
+    /// With these settings of the links to the publishers.
+    pub fn with_publishers(settings: [Settings; PUBLISHERS as usize]) -> World {
         let ends = |count, side| {
             (0..count)
                 .map(|_| (OtherEnd::new(side, true), vec![]))
                 .collect()
         };
         let mut world = World {
-            core: Core::new(),
+            core: Core::new(settings),
             fronts: ends(LINKS, Side::Client),
             publishers: ends(PUBLISHERS, Side::Server),
             closed: Vec::new(),
@@ -69,10 +75,15 @@ impl World {
             Peer::Front(_) => Side::Client,
             Peer::Publisher(_) => Side::Server,
         };
-        self.end(peer).0 = OtherEnd::new(side, true);
+        assert!(self.opens(peer, OtherEnd::new(side, true)));
+    }
+
+    /// A new connection with this other end; whether a Handshake came there.
+    pub fn opens(&mut self, peer: Peer, end: OtherEnd) -> bool {
+        self.end(peer).0 = end;
         self.tell(Event::Connected(peer, OPENING));
         self.flush(peer);
-        assert!(self.end(peer).0.open);
+        self.end(peer).0.open
     }
 
     /// Tells the core, and passes bytes to and fro until all is quiet.

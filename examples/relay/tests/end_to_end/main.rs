@@ -7,6 +7,7 @@ mod answering;
 mod asking;
 mod claims;
 mod front;
+mod old_publisher;
 #[path = "../other_end/mod.rs"]
 mod other_end;
 mod process;
@@ -29,6 +30,8 @@ use tally::Tally;
 const SEED: u64 = 1;
 const FRONTS: u8 = 32;
 const PUBLISHERS: u8 = 8;
+/// The lowest version of the link to each publisher.
+const LOWEST: [u8; PUBLISHERS as usize] = [0, 1, 2, 2, 0, 1, 2, 2];
 /// Everybody gives up then, with what was still open.
 const PATIENCE: Duration = Duration::from_secs(40);
 /// If even that hangs, the process ends.
@@ -41,8 +44,9 @@ fn every_answer_finds_its_request() {
     let publishers: Vec<Publisher> = (0..PUBLISHERS)
         .map(|publisher| Publisher::new(publisher, seed))
         .collect();
-    let addresses: Vec<SocketAddr> = publishers.iter().map(Publisher::address).collect();
-    let relay = RelayProcess::start(&addresses, HARD_LIMIT);
+    let addresses = publishers.iter().map(Publisher::address);
+    let words = addresses.zip(LOWEST).map(word).collect::<Vec<_>>();
+    let relay = RelayProcess::start(&words, HARD_LIMIT);
 
     let done = Arc::new(AtomicBool::new(false));
     let publishers: Vec<_> = publishers
@@ -71,6 +75,11 @@ fn every_answer_finds_its_request() {
     println!("the relay:\n{counts}");
     assert!(faults.is_empty(), "{}", faults.join("\n"));
     check(&tally, &counts);
+}
+
+/// A publisher on the relay's command line.
+fn word((address, lowest): (SocketAddr, u8)) -> String {
+    format!("{address},lowest={lowest}")
 }
 
 /// Every request ended, and each thing that the test is for did happen.

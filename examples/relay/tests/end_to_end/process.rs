@@ -15,11 +15,12 @@ pub struct RelayProcess {
 }
 
 impl RelayProcess {
-    /// It, and this process, end after `limit` if the test still runs then.
-    pub fn start(publishers: &[SocketAddr], limit: Duration) -> RelayProcess {
+    /// With eight words for the publishers. It, and this process, end after
+    /// `limit` if the test still runs then.
+    pub fn start(publishers: &[String], limit: Duration) -> RelayProcess {
         let mut child = Command::new(env!("CARGO_BIN_EXE_relay"))
             .args(["--retry-ms", "50", "--ping-ms", "2000", "127.0.0.1:0"])
-            .args(publishers.iter().map(SocketAddr::to_string))
+            .args(publishers)
             .stdin(Stdio::piped())
             .stdout(Stdio::piped())
             .spawn()

@@ -28,6 +28,16 @@ impl Socket {
         side: Side,
         generator: &mut Generator,
     ) -> Result<Option<Socket>, String> {
+        let end = OtherEnd::new(side, generator.below(2) == 0);
+        Socket::open_end(stream, end, generator)
+    }
+
+    /// The same with this link at our end.
+    pub fn open_end(
+        stream: TcpStream,
+        end: OtherEnd,
+        generator: &mut Generator,
+    ) -> Result<Option<Socket>, String> {
         let set = stream
             .set_nodelay(true)
             .and_then(|()| stream.set_nonblocking(false))
@@ -35,7 +45,7 @@ impl Socket {
         set.map_err(|error| format!("a socket's options: {error}"))?;
         let mut socket = Socket {
             stream,
-            end: OtherEnd::new(side, generator.below(2) == 0),
+            end,
             chunk: vec![0; 32_768],
             ended: false,
             cut_writes: 0,

@@ -6,6 +6,7 @@ use reference::link::packet::{whole, HANDSHAKE, NONCE, PING, PONG};
 use reference::link::{Link, Outgoing, Received};
 use reference::message::{self, Message, Side};
 use reference::numbers::read_u32;
+use relay::checksum::crc32;
 use std::time::{SystemTime, UNIX_EPOCH};
 
 /// What came that the link does not deal with itself.
@@ -18,6 +19,8 @@ pub enum Got {
 pub struct OtherEnd {
     link: Link,
     side: Side,
+    /// Of its Nonce, if not the second program's own.
+    version: Option<u8>,
     input: Vec<u8>,
     /// Packets that are still to go to the relay.
     pub output: Vec<u8>,
@@ -27,18 +30,28 @@ pub struct OtherEnd {
 }
 
 impl OtherEnd {
-    /// A client begins the opening.
     pub fn new(side: Side, crc32c: bool) -> OtherEnd {
+        OtherEnd::begin(side, crc32c, None)
+    }
+
+    /// An end whose Nonce has this version.
+    pub fn of_version(side: Side, crc32c: bool, version: u8) -> OtherEnd {
+        OtherEnd::begin(side, crc32c, Some(version))
+    }
+
+    /// A client begins the opening.
+    fn begin(side: Side, crc32c: bool, version: Option<u8>) -> OtherEnd {
         let mut end = OtherEnd {
             link: Link::new(side, crc32c),
             side,
+            version,
             input: Vec::new(),
             output: Vec::new(),
             open: false,
             answered_pings: 0,
         };
         if side == Side::Client {
-            end.send(nonce());
+            end.send_nonce();
         }
         end
     }
@@ -67,7 +80,7 @@ impl OtherEnd {
 
     fn packet(&mut self, packet_type: u32, body: &[u8]) -> Result<Option<Got>, String> {
         match (packet_type, self.side) {
-            (NONCE, Side::Server) => self.send(nonce()),
+            (NONCE, Side::Server) => self.send_nonce(),
             (NONCE, Side::Client) => self.send(HANDSHAKE_OUT),
             (HANDSHAKE, side) => {
                 self.open = true;
@@ -89,6 +102,19 @@ impl OtherEnd {
             }
         }
         Ok(None)
+    }
+
+    /// The second program writes its own version: for another, that byte is
+    /// changed and the checksum made right again.
+    fn send_nonce(&mut self) {
+        let mut packet = self.made(Outgoing::Nonce(clock(), [7; 16]));
+        if let Some(version) = self.version {
+            packet[NONCE_VERSION] = version;
+            let end = packet.len() - 4;
+            let (summed, sum) = packet.split_at_mut(end);
+            sum.copy_from_slice(&crc32(summed).to_le_bytes());
+        }
+        self.output.extend(packet);
     }
 
     /// Adds a packet to the output; only what the link allows is ever sent.
@@ -129,9 +155,8 @@ impl OtherEnd {
 
 const HANDSHAKE_OUT: Outgoing = Outgoing::Handshake([1; 12], [2; 12]);
 
-fn nonce() -> Outgoing<'static> {
-    Outgoing::Nonce(clock(), [7; 16])
-}
+/// Where a Nonce has its version, within the packet.
+const NONCE_VERSION: usize = 12 + 5;
 
 fn payload_length(message: &Message<&[u8]>) -> usize {
     let mut length = 0;

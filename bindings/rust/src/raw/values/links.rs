@@ -1,16 +1,11 @@
-//! Settings, Moment, Link, SetUp, Arrival, Part, Clock.
+//! Moment, Link, Arrival, Part, Clock.
 
 use super::*;
 use crate::packet_type::{HANDSHAKE, NONCE, PING, PONG};
 
-const FIRST: u32 = u32::MAX - 1;
-
 /// A link in the middle of a conversation, every field by hand.
 const TALKING: Link = Link {
-    set: Settings {
-        server: true,
-        allows: false,
-    },
+    set: settings(true, false),
     closed: false,
     crc32c: false,
     version: 1,
@@ -23,43 +18,19 @@ const TALKING: Link = Link {
     owed: 0x1112_1314_1516_1718,
 };
 
-fn nonce(version: u8, time: u32) -> Vec<u8> {
-    let mut body = vec![0; 60];
-    body[5] = version;
-    body[8..12].copy_from_slice(&time.to_le_bytes());
-    body
-}
-
-#[test]
-fn a_fresh_link_keeps_its_settings() {
-    for (server, allows) in [(false, false), (false, true), (true, false), (true, true)] {
-        let fresh = Link {
-            set: Settings { server, allows },
-            closed: false,
-            crc32c: false,
-            version: 0,
-            stage: 0,
-            sends: FIRST,
-            gets: FIRST,
-            awaits: false,
-            awaited: 0,
-            owes: false,
-            owed: 0,
-        };
-        assert_eq!(link(server, allows), fresh);
-    }
-}
-
 #[test]
 fn the_opening_writes_version_stage_gets_and_crc32c() {
     let mut server = link(true, true);
-    receive(&mut server, &packet(FIRST, NONCE, &nonce(77, 5)), 5);
+    receive(&mut server, &packet(FIRST_PACKET, NONCE, &nonce(77, 5)), 5);
     assert_eq!((server.version, server.stage), (77, 1));
-    assert_eq!((server.sends, server.gets), (FIRST, FIRST + 1));
+    assert_eq!(
+        (server.sends, server.gets),
+        (FIRST_PACKET, FIRST_PACKET + 1)
+    );
     server.stage = 2;
     let mut flags = vec![0; 28];
     flags[1] = 8;
-    receive(&mut server, &packet(FIRST + 1, HANDSHAKE, &flags), 5);
+    receive(&mut server, &packet(FIRST_PACKET + 1, HANDSHAKE, &flags), 5);
     assert!(server.crc32c && !server.closed);
     assert_eq!((server.version, server.stage, server.gets), (77, 3, 0));
 }
@@ -108,10 +79,7 @@ fn receiving_reads_stage_crc32c_and_side() {
     let refusal = |link: Link| receive(&mut { link }, &ping, 0).refusal;
     let in_stage = |stage, server| Link {
         stage,
-        set: Settings {
-            server,
-            allows: false,
-        },
+        set: settings(server, false),
         ..TALKING
     };
     assert_eq!(refusal(in_stage(0, true)), 5);
@@ -127,7 +95,7 @@ fn receiving_reads_stage_crc32c_and_side() {
 #[test]
 fn receiving_reads_the_time_and_the_setting() {
     let mut server = link(true, true);
-    let bytes = packet(FIRST, NONCE, &nonce(2, 1000));
+    let bytes = packet(FIRST_PACKET, NONCE, &nonce(2, 1000));
     assert_eq!(receive(&mut server, &bytes, 969).refusal, 8);
     let granted = |allows| {
         let mut client = Link {
@@ -136,7 +104,7 @@ fn receiving_reads_the_time_and_the_setting() {
         };
         let mut flags = vec![0; 28];
         flags[1] = 8;
-        receive(&mut client, &packet(FIRST, HANDSHAKE, &flags), 0).refusal
+        receive(&mut client, &packet(FIRST_PACKET, HANDSHAKE, &flags), 0).refusal
     };
     assert_eq!((granted(false), granted(true)), (10, 0));
 }

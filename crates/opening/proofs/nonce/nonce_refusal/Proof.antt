@@ -30,8 +30,7 @@ returns-3 c =
       le-ltb _ _ (c .before .before .before .before .if1 .left),
       ← c .before .before .before .near .ensures,
       c .before .before .if2 .left,
-      ← c .before .cipher-refused .ensures,
-      c .if3 .taken,
+      lt-ltb _ _ (c .if3 .taken),
     )
 
 returns-4 : tie.Need-returns-4
@@ -43,9 +42,8 @@ returns-4 c =
       le-ltb _ _ (c .before .before .before .before .before .before .if1 .left),
       ← c .before .before .before .before .before .near .ensures,
       c .before .before .before .before .if2 .left,
-      ← c .before .before .before .cipher-refused .ensures,
-      c .before .before .if3 .left,
-      ← c .before .beyond .ensures,
+      le-ltb _ _ (c .before .before .if3 .left),
+      ← c .before .cipher-refused .ensures,
       c .if4 .taken,
     )
 
@@ -53,15 +51,32 @@ returns-5 : tie.Need-returns-5
 unfolding nonceRefusal
 returns-5 c =
     simp (
-      ← c .before .before .before .before .before .before .before .before .u8-at .ensures,
-      ← c .before .before .before .before .before .before .before .least .ensures,
-      le-ltb _ _ (c .before .before .before .before .before .before .if1 .left),
-      ← c .before .before .before .before .before .near .ensures,
-      c .before .before .before .before .if2 .left,
+      ← c .before .before .before .before .before .before .before .before .before .before .u8-at .ensures,
+      ← c .before .before .before .before .before .before .before .before .before .least .ensures,
+      le-ltb _ _ (c .before .before .before .before .before .before .before .before .if1 .left),
+      ← c .before .before .before .before .before .before .before .near .ensures,
+      c .before .before .before .before .before .before .if2 .left,
+      le-ltb _ _ (c .before .before .before .before .if3 .left),
       ← c .before .before .before .cipher-refused .ensures,
-      c .before .before .if3 .left,
+      c .before .before .if4 .left,
       ← c .before .beyond .ensures,
-      c .if4 .left,
+      c .if5 .taken,
+    )
+
+returns-6 : tie.Need-returns-6
+unfolding nonceRefusal
+returns-6 c =
+    simp (
+      ← c .before .before .before .before .before .before .before .before .before .before .u8-at .ensures,
+      ← c .before .before .before .before .before .before .before .before .before .least .ensures,
+      le-ltb _ _ (c .before .before .before .before .before .before .before .before .if1 .left),
+      ← c .before .before .before .before .before .before .before .near .ensures,
+      c .before .before .before .before .before .before .if2 .left,
+      le-ltb _ _ (c .before .before .before .before .if3 .left),
+      ← c .before .before .before .cipher-refused .ensures,
+      c .before .before .if4 .left,
+      ← c .before .beyond .ensures,
+      c .if5 .left,
     )
 
 pub nonce-refusal-spec : {M : Type 1} → statement M
@@ -73,8 +88,9 @@ nonce-refusal-spec =
     returns
     (λ c κs. search needs)
     returns-2
-    (λ c κs. search needs)
     returns-3
     (λ c κs. search needs)
     returns-4
-    returns-5)
+    (λ c κs. search needs)
+    returns-5
+    returns-6)

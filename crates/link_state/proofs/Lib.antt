@@ -1,0 +1,2 @@
+-- Laws of crate link_state.
+pub mod SetUpLaws

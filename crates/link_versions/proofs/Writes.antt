@@ -1,0 +1,126 @@
+-- No Nonce that a link writes has a version below its lowest. Assumes nothing.
+use borrow.Author.Tests.{leb-true, eqb-true, ltb-true}
+use native.Mathlib.Omega.{arith}
+use mathlib.Core.Path.{_≡_, refl, ap, sym, _∙_}
+use mathlib.Core.Bool.{Bool, true, false}
+use mathlib.Core.List.{List, _++_, append-assoc}
+use Prim.Native.Nat.{ℕ, _+_, _%_, _≤_, _<_}
+use lib.ListN.{length, drop, length-append}
+use lib.Dec.{ltb, leb, eqb}
+use Rattle.wire.specs.Bytes.{le, part, bytes}
+use Rattle.wire.specs.Choice.{pick}
+use Rattle.wire.proofs.ByteLaws.{length-bytes, le-bytes, part-mid}
+use Rattle.link_state.specs.declared.Link.{Link}
+use Rattle.link_state.specs.declared.Settings.{Settings}
+use Rattle.link_state.specs.declared.Moment.{Moment}
+use Rattle.link_state.specs.declared.SetUp.the-variants.{Ready}
+use Rattle.link_state.specs.SetUp.{setUpOf}
+use Rattle.link_state.specs.Turn.{maySend}
+use Rattle.link_state.proofs.SetUpLaws.{set-up-took}
+use Rattle.packet.specs.Sum.{sumOf}
+use Rattle.packet_out.specs.Packet.{headOf, frontOf, packetOf}
+use Rattle.packet_out.specs.declared.Sent.{Sent}
+use Rattle.packet_out.specs.declared.Sent.the-variants.{Written, Refused}
+use Rattle.packet_out.proofs.PacketLaws.{length-head, length-packet, front-stored}
+use Rattle.send_rules.specs.Control.{controlAnswer, stepBy, bufferBy, controlStep, controlBuffer}
+use Rattle.send_rules.proofs.ControlLaws.{fits}
+use Rattle.nonce_out.specs.Nonce.{versionOf, nonceHead, pointOf, nonceBody, nonceStep, nonceBuffer}
+use Rattle.send.specs.Send.{sendOf, sendBuffer}
+use Rattle.send.specs.declared.ToSend.the-variants.{Nonce}
+use Rattle.link_versions.specs.Calls.{Call, afterCalls, heardFrom}
+use Rattle.link_versions.proofs.Accepted.{at-turn}
+use Rattle.link_versions.proofs.NoOlder.{Holds, holds-from-set-up}
+
+-- ---- the version that a link writes
+
+-- a server writes no packet before it has the client's Nonce
+not-first : (n : ℕ) → maySend true n ≡ true → 1 ≤ n
+unfolding maySend
+not-first n = go (leb 4 n) refl
+  where
+    go : (x : Bool) → leb 4 n ≡ x → pick x true (eqb (n % 2) 1) ≡ true → 1 ≤ n
+    go true q e = let four = leb-true 4 n q in omega arith
+    go false q e = let odd = eqb-true (n % 2) 1 e in omega arith
+
+module _ (set : Settings) (k : Link) (h : Holds set (heardFrom (set .server)) k) (low : set .lowest ≤ 2)
+    (turn : maySend (k .set .server) (k .stage) ≡ true) where
+  version-written : set .lowest ≤ versionOf k
+  unfolding versionOf
+  version-written = rw (h .settings) (go (set .server) (h .version) (rw (h .settings) at turn) (ltb (k .version) 2))
+    where
+      go : (v : Bool) → (heardFrom v ≤ k .stage → set .lowest ≤ k .version) → maySend v (k .stage) ≡ true → (x : Bool)
+          → set .lowest ≤ pick v (pick x (k .version) 2) 2
+      go false f t x = low
+      go true f t false = low
+      go true f t true = f (not-first (k .stage) t)
+
+small-version : (k : Link) → versionOf k < 256
+unfolding versionOf
+small-version k = go (k .set .server) (ltb (k .version) 2) refl
+  where
+    go : (v x : Bool) → ltb (k .version) 2 ≡ x → pick v (pick x (k .version) 2) 2 < 256
+    go true true q = let small = ltb-true (k .version) 2 q in omega arith
+    go true false q = omega arith
+    go false x q = omega arith
+
+-- ---- where it stands: byte 5 of the body, which is byte 17 of the packet
+
+module _ (k : Link) (version time : ℕ) (random rest : List ℕ) where
+  abbrev kind : ℕ
+  kind = 0x7acb87aa
+
+  abbrev body : List ℕ
+  body = nonceBody version time random
+
+  byte-17 : version < 256 → le (part (packetOf k kind body ++ rest) 17 1) ≡ version
+  unfolding packetOf frontOf nonceBody nonceHead
+  byte-17 small =
+      let H : List ℕ = headOf (length body + 16) (k .sends) kind ++ (bytes 4 0 ++ bytes 1 0) in
+      let T : List ℕ = (bytes 2 0 ++ bytes 4 time) ++
+      ((random ++ pointOf) ++ (bytes 4 (sumOf k (frontOf k kind body)) ++ rest)) in
+      let e : length H ≡ 17 = simp (length-append, length-head, length-bytes) in
+      let q : packetOf k kind body ++ rest ≡ H ++ (bytes 1 version ++ T) = simp append-assoc in
+      ap (λ (t : List ℕ). le (part t 17 1)) q ∙
+      (ap le (part-mid H (bytes 1 version) T 17 1 e (length-bytes 1 version)) ∙ le-bytes 1 version small)
+
+-- ---- the send call
+
+answered : (l : Link) (kind id : ℕ) (a : Sent) → stepBy l kind id a .answer ≡ a
+answered l kind id (Written n) = refl
+answered l kind id (Refused k) = refl
+
+module _ (k : Link) (p random b : List ℕ) (m : Moment) (n : ℕ)
+    (e : sendOf k Nonce p random m (length b) .answer ≡ Written n) where
+  abbrev ours : List ℕ
+  ours = nonceBody (versionOf k) (m .time) random
+
+  size-answered : controlAnswer k 0x7acb87aa false (length ours) (length b) ≡ Written n
+  unfolding sendOf nonceStep controlStep
+  size-answered = sym (answered k 0x7acb87aa 0 (controlAnswer k 0x7acb87aa false (length ours) (length b))) ∙ e
+
+  due : maySend (k .set .server) (k .stage) ≡ true
+  unfolding controlAnswer
+  due = at-turn k 0x7acb87aa false _ n size-answered
+
+  left : sendBuffer k Nonce p random m b ≡ packetOf k 0x7acb87aa ours ++ drop (length (packetOf k 0x7acb87aa ours)) b
+  unfolding sendBuffer nonceBuffer controlBuffer
+  left =
+      let room = fits k 0x7acb87aa false (length ours) ours 0 b refl n size-answered .1 in
+      ap (bufferBy k 0x7acb87aa ours b) size-answered ∙ front-stored b (packetOf k 0x7acb87aa ours)
+      (omega (arith, length-packet k 0x7acb87aa ours))
+
+  reads-version : le (part (sendBuffer k Nonce p random m b) 17 1) ≡ versionOf k
+  reads-version =
+      ap (λ (t : List ℕ). le (part t 17 1)) left ∙ byte-17 k (versionOf k) (m .time) random _ (small-version k)
+
+-- NO OLDER IS WRITTEN: a link that was set up, after any calls, leaves no Nonce in a buffer whose version, which is
+-- byte 17, is
+-- below its lowest; at either side
+pub writes-no-older : (set : Settings) (l : Link) → setUpOf set ≡ Ready l
+    → (cs : List Call) (p random b : List ℕ) (m : Moment) (n : ℕ)
+    → sendOf (afterCalls l cs) Nonce p random m (length b) .answer ≡ Written n
+    → set .lowest ≤ le (part (sendBuffer (afterCalls l cs) Nonce p random m b) 17 1)
+writes-no-older set l ready cs p random b m n e =
+    let k : Link = afterCalls l cs in
+    rw (reads-version k p random b m n e)
+    (version-written set k (holds-from-set-up set l ready cs) (set-up-took set l ready .1) (due k p random b m n e))

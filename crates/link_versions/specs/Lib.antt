@@ -1,0 +1,3 @@
+-- What the theorems on the lowest version speak of.
+pub mod Calls
+pub mod Before
