@@ -43,7 +43,7 @@ enum {
     RELAY_TYPE_NOT_RPC = 19,            /* a type that is no message's, or a message that does not go this way */
     RELAY_LINK_CLOSED = 20,             /* the link is closed */
     RELAY_PING_OUT_OF_TURN = 21,        /* a Ping or Pong out of turn */
-    RELAY_NOT_OUR_TURN = 22,            /* it is the other side's turn in the opening */
+    RELAY_NOT_OUR_TURN = 22,            /* in the opening: a send at the other side's turn, or a receive at ours */
     RELAY_VERSION_TOO_OLD = 24,         /* a Nonce's version is below the link's lowest */
     RELAY_OUT_OF_RANGE = 30,            /* a link, publisher, first number or lowest version is out of range */
     RELAY_IN_FLIGHT_ALREADY = 31,       /* the link has a request in flight with this number */
@@ -187,8 +187,6 @@ typedef struct relay_clock {
 /* The clock difference that a Nonce with this body shows. */
 relay_clock relay_clock_difference(const uint8_t *body, size_t n, relay_moment moment);
 
-/* ---- Sending ---- */
-
 /* A process, as a Handshake names it. */
 typedef struct relay_netpid {
     uint32_t ip;
@@ -196,6 +194,17 @@ typedef struct relay_netpid {
     uint16_t pid;
     uint32_t start; /* its start time */
 } relay_netpid;
+
+/* The two processes that a Handshake names: who sent it, and whom the sender took its peer for. */
+typedef struct relay_netpids {
+    relay_netpid sender, peer;
+} relay_netpids;
+
+/* The processes that a Handshake with this body names. Of fewer than 28 bytes, which relay_receive refuses with 7, what
+ * is there is read, and the rest is 0; bytes past 28 are ignored. */
+relay_netpids relay_read_netpids(const uint8_t *body, size_t n);
+
+/* ---- Sending ---- */
 
 /* What is to be sent; what its type does not have is ignored. */
 typedef struct relay_outgoing {

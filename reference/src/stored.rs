@@ -22,6 +22,7 @@ mod message_texts;
 mod message_writes;
 mod records;
 mod walk_cases;
+mod walk_long;
 mod walk_scripts;
 mod wire_cases;
 
@@ -45,6 +46,7 @@ pub fn files() -> Vec<StoredFile> {
     let wire = wire_cases::input();
     let example = walk_cases::example_input();
     let walk = walk_cases::input();
+    let long = walk_long::input();
     let message = message_cases::input();
     let link = link_cases::input();
     vec![
@@ -62,6 +64,8 @@ pub fn files() -> Vec<StoredFile> {
         stored("crates/relay_walk/stdin", example),
         stored("crates/walk_check/stdout", walk_cases::output(&walk)),
         stored("crates/walk_check/stdin", walk),
+        stored("crates/walk_long_check/stdout", walk_long::output(&long)),
+        stored("crates/walk_long_check/stdin", long),
         stored(
             "crates/message_check/stdout",
             message_cases::output(&message),

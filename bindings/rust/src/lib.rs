@@ -40,7 +40,7 @@ mod table;
 
 pub use link::{clock_difference, Arrival, Link, Moment, Settings, Side};
 pub use message::{read_message, Answer, Invoke, Message};
-pub use netpid::NetPid;
+pub use netpid::{net_pids, NetPid, NetPids};
 pub use numbers::{FrontNumber, PublisherNumber};
 pub use refusal::Refusal;
 pub use send::ToSend;

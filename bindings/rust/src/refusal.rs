@@ -71,7 +71,7 @@ refusals! {
     TYPE_NOT_RPC = 19, "a type that is no message's, or a message that does not go this way";
     LINK_CLOSED = 20, "the link is closed";
     PING_OUT_OF_TURN = 21, "a Ping or Pong out of turn";
-    NOT_OUR_TURN = 22, "it is the other side's turn in the opening";
+    NOT_OUR_TURN = 22, "in the opening: a send at the other side's turn, or a receive at ours";
     VERSION_TOO_OLD = 24, "a Nonce's version is below the link's lowest";
     OUT_OF_RANGE = 30, "a link, publisher, first number or lowest version is out of range";
     IN_FLIGHT_ALREADY = 31, "the link has a request in flight with this number";

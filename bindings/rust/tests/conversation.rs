@@ -1,8 +1,8 @@
 //! Two links against each other: opening, keep-alive, an invoke and its result.
 
 use relay::{
-    checksum, clock_difference, packet_type, read_message, Answer, Arrival, Invoke, Link, Message,
-    Moment, NetPid, Refusal, Settings, Side, ToSend,
+    checksum, clock_difference, net_pids, packet_type, read_message, Answer, Arrival, Invoke, Link,
+    Message, Moment, NetPid, NetPids, Refusal, Settings, Side, ToSend,
 };
 
 const CLIENT_TIME: Moment = Moment {
@@ -12,7 +12,7 @@ const SERVER_TIME: Moment = Moment {
     time: 1_700_000_007,
 };
 const NONCE: ToSend = ToSend::Nonce { random: [7; 16] };
-const HANDSHAKE: ToSend = ToSend::Handshake {
+const PIDS: NetPids = NetPids {
     sender: NetPid {
         ip: 1,
         port: 2,
@@ -25,6 +25,10 @@ const HANDSHAKE: ToSend = ToSend::Handshake {
         pid: 7,
         start: 8,
     },
+};
+const HANDSHAKE: ToSend = ToSend::Handshake {
+    sender: PIDS.sender,
+    peer: PIDS.peer,
 };
 
 fn link(side: Side, crc32c: bool) -> Link {
@@ -83,9 +87,11 @@ impl Pair {
         assert_eq!(kind, packet_type::NONCE);
         assert_eq!(clock_difference(&nonce, SERVER_TIME), Some(-7));
         pair.pass(Side::Server, NONCE);
-        pair.pass(Side::Client, HANDSHAKE);
+        let (_, handshake) = pair.pass(Side::Client, HANDSHAKE);
+        assert_eq!(net_pids(&handshake), PIDS);
         assert!(!pair.client.is_open() && !pair.server.is_open());
-        pair.pass(Side::Server, HANDSHAKE);
+        let (_, handshake) = pair.pass(Side::Server, HANDSHAKE);
+        assert_eq!(net_pids(&handshake), PIDS);
         assert!(pair.client.is_open() && pair.server.is_open());
         pair
     }

@@ -1,8 +1,8 @@
 //! Bytes and numbers that no honest peer sends: every call answers.
 
 use relay::{
-    checksum, clock_difference, packet_type, read_message, Arrival, FrontNumber, Link, Moment,
-    PublisherNumber, Refusal, Settings, Side, Table,
+    checksum, clock_difference, net_pids, packet_type, read_message, Arrival, FrontNumber, Link,
+    Moment, NetPid, NetPids, PublisherNumber, Refusal, Settings, Side, Table,
 };
 
 const NOW: Moment = Moment { time: 0 };
@@ -108,6 +108,26 @@ fn random_bodies_of_messages() {
         assert_eq!(checksum::crc32_update(0, &body), checksum::crc32(&body));
         assert_eq!(checksum::crc32c_update(0, &body), checksum::crc32c(&body));
     }
+}
+
+#[test]
+fn a_handshake_that_is_cut_or_too_long() {
+    let bytes = Random(4).bytes(40);
+    for n in 0..=40 {
+        let mut whole = bytes[..n].to_vec();
+        whole.resize(28, 0);
+        assert_eq!(net_pids(&bytes[..n]), net_pids(&whole), "{n}");
+    }
+    let cut = NetPids {
+        sender: NetPid {
+            ip: 0x0403_0201,
+            port: 5,
+            ..NetPid::default()
+        },
+        ..NetPids::default()
+    };
+    assert_eq!(net_pids(&[0, 0, 0, 0, 1, 2, 3, 4, 5]), cut);
+    assert_eq!(net_pids(&[]), NetPids::default());
 }
 
 #[test]

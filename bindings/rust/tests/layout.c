@@ -67,6 +67,10 @@ AT(relay_netpid, port, 4)
 AT(relay_netpid, pid, 6)
 AT(relay_netpid, start, 8)
 
+SIZE(relay_netpids, 24)
+AT(relay_netpids, sender, 0)
+AT(relay_netpids, peer, 12)
+
 SIZE(relay_outgoing, 80)
 AT(relay_outgoing, kind, 0)
 AT(relay_outgoing, error, 4)

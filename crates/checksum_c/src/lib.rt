@@ -1,7 +1,7 @@
 // The checksums for C: each exported function wraps one call of the crate `checksum` and has that call's contract.
 //
 // A slice passes as a pointer and a length. Nothing here computes anything: what a checksum is, is said by the crate
-// `crc`. README.md declares the functions for C, bench/ for Rust.
+// `crc`. include/relay.h declares the functions for C, bindings/rust for Rust.
 ghost use mathlib.Core.Path.{_≡_};
 ghost use Rattle.crc.specs.Crc.{reflected, crc, update};
 ghost use Rattle.crc.specs.declared.Polynomial.the-variants.{Ieee, Castagnoli};

@@ -9,9 +9,9 @@ use Rattle.wire.specs.Bytes.{bytes}
 use Rattle.wire.proofs.ByteLaws.{length-bytes}
 use Rattle.wire.proofs.StoreLaws.{runs-3, runs-4}
 use Rattle.handshake_out.specs.Handshake.{pidBytes, handshakeBody}
-use Rattle.handshake_out.specs.declared.NetPid.{NetPid}
+use Rattle.opening.specs.declared.NetPid.{NetPid}
 
-length-pid : (p : NetPid) → length (pidBytes p) ≡ 12
+pub length-pid : (p : NetPid) → length (pidBytes p) ≡ 12
 unfolding pidBytes
 length-pid p = simp (length-append, length-bytes)
 

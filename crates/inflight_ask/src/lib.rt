@@ -8,6 +8,6 @@ mod numbering;
 pub use asking::ask;
 
 // The load of each of the eight publishers.
-pub struct Loads {
+struct Loads {
     of: [u8; 8],
 }

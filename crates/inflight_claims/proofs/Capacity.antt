@@ -200,6 +200,12 @@ bounded-without k {es} s =
       most = λ q. let l = load-without k es q in omega (arith, s .most q);
     }
 
+-- at most 64 requests are in flight
+pub bounded-size : (es : List Request) → Bounded es → length es ≤ 64
+bounded-size es s =
+    let m = sum-le 8 (load es) (λ q. max 4 (load es q)) (λ q g. omega arith) in
+    omega (arith, s .within, below-length (s .below))
+
 -- where an ask is accepted, fewer than 64 requests are in flight
 pub bounded-space : (es : List Request) {l : ℕ} {n : FrontNumber} (p : ℕ) → Bounded es → Accepts es l n p → length es < 64
 bounded-space es p s r = ⊎-elim few spare (r .reason)

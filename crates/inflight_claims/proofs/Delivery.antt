@@ -4,7 +4,7 @@ use mathlib.Core.Path.{_≡_, refl, sym, ap, _∙_, subst, fun-ext}
 use mathlib.Core.Logic.{⊎-elim, _⊎_, inl, inr}
 use Prim.Native.Nat.{ℕ, suc, _+_, _≤_, _<_}
 use native.Mathlib.Omega.{arith}
-use mathlib.Core.Bool.{Bool, true, false}
+use mathlib.Core.Bool.{Bool, true, false, false≢true}
 use mathlib.Core.List.{List, [], _∷_, _++_}
 use lib.Dec.{eqb, leb}
 use lib.IntN.{ℤ, pos}
@@ -175,10 +175,10 @@ module _ (first : PublisherNumber) (ranged : Ranged first) where
       let a : M.askAnswer (at b) l f p ≡ A.Accepted x = cc in
       accepts (at b) l f p (answer-accepted (at b) l f p x a .0) .range
 
-  late-at : (b s : List Call) (l : ℕ) (f : FrontNumber) (k : ℕ) (g : FrontNumber) (p : ℕ) (x : PublisherNumber)
+  again-at : (b s : List Call) (l : ℕ) (f : FrontNumber) (k : ℕ) (g : FrontNumber) (p : ℕ) (x : PublisherNumber)
       → ans b (ask l f p) ≡ asked (A.Accepted x) → ans (b ++ ask l f p ∷ s) (ask k g p) ≡ asked (A.Accepted x)
       → gone ans first p (b ++ ask l f p ∷ []) + round ≤ gone ans first p ((b ++ ask l f p ∷ s) ++ ask k g p ∷ [])
-  late-at b s l f k g p x h q =
+  again-at b s l f k g p x h q =
       let B = b ++ ask l f p ∷ s in
       let r = ask-range b l f p x h in
       let i : ℕ = passed ans first p b (gone ans first p b) + gone ans first p b in
@@ -190,13 +190,13 @@ module _ (first : PublisherNumber) (ranged : Ranged first) where
       let z = right-round i j first ranged (omega arith) e in
       omega arith
 
-  late-of : (cs : List Call) (e d : Request) (b s : List Call) → cs ≡ b ++ askFor e ∷ s → ans b (askFor e) ≡ asked (A.Accepted (e .number))
+  again-of : (cs : List Call) (e d : Request) (b s : List Call) → cs ≡ b ++ askFor e ∷ s → ans b (askFor e) ≡ asked (A.Accepted (e .number))
       → ans cs (askFor d) ≡ asked (A.Accepted (d .number)) → d .publisher ≡ e .publisher → d .number ≡ e .number
       → gone ans first (e .publisher) (b ++ askFor e ∷ []) + round ≤ gone ans first (e .publisher) (cs ++ askFor d ∷ [])
-  late-of cs e d b s q h k pe ne =
+  again-of cs e d b s q h k pe ne =
       let g : ans (b ++ askFor e ∷ s) (ask (d .link) (d .front) (e .publisher)) ≡ asked (A.Accepted (e .number)) =
       sym (ap (λ (x : List Call). ans x (ask (d .link) (d .front) (e .publisher))) q) ∙ sym (ap (λ (p : ℕ). ans cs (ask (d .link) (d .front) p)) pe) ∙ k ∙ ap (λ (x : PublisherNumber). asked (A.Accepted x)) ne in
-      let r = late-at b s (e .link) (e .front) (d .link) (d .front) (e .publisher) (e .number) h g in
+      let r = again-at b s (e .link) (e .front) (d .link) (d .front) (e .publisher) (e .number) h g in
       let w : gone ans first (e .publisher) ((b ++ askFor e ∷ s) ++ ask (d .link) (d .front) (e .publisher) ∷ []) ≡ gone ans first (e .publisher) (cs ++ askFor d ∷ []) =
       sym (ap (λ (x : List Call). gone ans first (e .publisher) (x ++ ask (d .link) (d .front) (e .publisher) ∷ [])) q) ∙ sym (ap (λ (p : ℕ). gone ans first (e .publisher) (cs ++ ask (d .link) (d .front) p ∷ [])) pe) in
       omega arith
@@ -220,7 +220,7 @@ module _ (first : PublisherNumber) (ranged : Ranged first) where
     where
       early : Behind b (askFor d) s (c .before) (askFor e) (c .since) → ⊥
       early j =
-          let l = late-of (c .before) d e b (j .mid) (j .place) h (c .accepted) (sym pe) (sym ne) in
+          let l = again-of (c .before) d e b (j .mid) (j .place) h (c .accepted) (sym pe) (sym ne) in
           let l2 : gone ans first (e .publisher) (b ++ askFor d ∷ []) + round ≤ gone ans first (e .publisher) (c .before ++ askFor e ∷ []) = subst (λ (p : ℕ). gone ans first p (b ++ askFor d ∷ []) + round ≤ gone ans first p (c .before ++ askFor e ∷ [])) pe l in
           let g : gone ans first (e .publisher) (c .before ++ askFor e ∷ []) ≤ gone ans first (e .publisher) cs =
           subst (λ (x : List Call). gone ans first (e .publisher) (c .before ++ askFor e ∷ []) ≤ gone ans first (e .publisher) x) (shift (c .before) (askFor e) (c .since) ∙ sym (c .place)) (gone-more ans first (e .publisher) (c .before ++ askFor e ∷ []) (c .since)) in
@@ -272,6 +272,35 @@ module _ (first : PublisherNumber) (ranged : Ranged first) where
           let z = answer-front m p x (take-zero m p x (lt-leb 8 p r) (ne-same (x .0) (pos 0) n) e) in
           absurd (h (matched m (Reply p x) .link) (matched m (Reply p x) .front) (delivered-of cs (matched m (Reply p x) .link) (matched m (Reply p x) .front) p x (ap replied z)))
 
+  -- the two asks at one place of the list are one
+  same-place : (b : List Call) (e d : Request) (r s : List Call) → b ++ askFor e ∷ r ≡ b ++ askFor d ∷ s
+      → (e .link ≡ d .link) × (e .front ≡ d .front) × (r ≡ s)
+  same-place [] e d r s h = ((cc), (cc), (cc))
+  same-place (c ∷ b) e d r s h = same-place b e d r s (cc)
+
+  overdue-of : (cs : List Call) (e : Request) (b s : List Call) → cs ≡ b ++ askFor e ∷ s → ans b (askFor e) ≡ asked (A.Accepted (e .number))
+      → freedSince ans e (b ++ askFor e ∷ []) s ≡ true
+      → gone ans first (e .publisher) cs < gone ans first (e .publisher) (b ++ askFor e ∷ []) + round
+      → ans cs (reply (e .publisher) (e .number)) ≡ replied (R.Refused 34)
+  overdue-of cs e b s q h t w =
+      let p = e .publisher in
+      let x = e .number in
+      let r = ask-range b (e .link) (e .front) p x h in
+      let g : Ranged x = subst Ranged (sym (numbered-at first ranged p r b (e .link) (e .front) x h)) (steps-ranged (passed ans first p b (gone ans first p b) + gone ans first p b) first ranged) in
+      nowhere-of cs p x r (λ z. false≢true (sym (not-zero x g) ∙ eq-same (x .0) (pos 0) z)) (λ l f c. none l f c)
+    where
+      none : (l : ℕ) (f : FrontNumber) → Carried ans cs (request l f (e .publisher) (e .number)) → ⊥
+      none l f c =
+          let d : Request = request l f (e .publisher) (e .number) in
+          let k : b ≡ c .before = only-of cs d c e b s q h refl refl w in
+          let v : b ++ askFor e ∷ s ≡ b ++ askFor d ∷ c .since = sym q ∙ c .place ∙ ap (λ (y : List Call). y ++ askFor d ∷ c .since) (sym k) in
+          let u = same-place b e d s (c .since) v in
+          let y : e ≡ d = is-request e l f (e .publisher) (e .number) (u .0) (u .1) refl refl in
+          let n : freedSince ans d (b ++ askFor d ∷ []) (c .since) ≡ false = subst (λ (z : List Call). freedSince ans d (z ++ askFor d ∷ []) (c .since) ≡ false) (sym k) (c .standing) in
+          let m : freedSince ans e (b ++ askFor e ∷ []) s ≡ freedSince ans d (b ++ askFor d ∷ []) (c .since) =
+          ap (λ (z : Request). freedSince ans z (b ++ askFor z ∷ []) s) y ∙ ap (λ (z : List Call). freedSince ans d (b ++ askFor d ∷ []) z) (u .2) in
+          false≢true (sym n ∙ sym m ∙ t)
+
   of-model : (cs : List Call) → Delivery ans first cs
   of-model cs =
       record {
@@ -281,8 +310,9 @@ module _ (first : PublisherNumber) (ranged : Ranged first) where
         only = only-of cs;
         twice = twice-of cs;
         nowhere = nowhere-of cs;
+        overdue = overdue-of cs;
         numbered = λ e h. numbered-at first ranged (e .publisher) (ask-range cs (e .link) (e .front) (e .publisher) (e .number) h) cs (e .link) (e .front) (e .number) h;
-        late = late-of cs;
+        again = again-of cs;
         apart = λ e d c h pe ne. never-again cs e d (carried-in cs e c) h pe ne;
       }
 

@@ -146,6 +146,10 @@ one-more j es e a z = go (matches j e) refl
     go true h = omega (arith, matching-snoc-yes j es e h, z h)
     go false h = omega (arith, matching-snoc-no j es e h)
 
+-- the number that an ask is given is from 1 to the largest
+pub given-ranged : (b : Model) (p : ℕ) → Invariant b → p < 8 → Ranged (given b p)
+given-ranged b p f h = free-ranged (length (b .requests)) (b .requests) p (getD (b .next) p (record { 0 = pos 0 })) (f .ranged p h)
+
 next-ranged : (b : Model) (p q : ℕ) → Invariant b → p < 8 → q < 8 → Ranged (getD (set (b .next) p (after (given b p))) q (record { 0 = pos 0 }))
 next-ranged b p q f g h = go (eqb q p) refl
   where
@@ -154,7 +158,7 @@ next-ranged b p q f g h = go (eqb q p) refl
         let s : q ≡ p = eqb-true q p i in
         let l : p < length (b .next) = omega (arith, f .eight) in
         rw (s, getD-set-same (b .next) p (after (given b p)) (record { 0 = pos 0 }) l)
-        (after-ranged (given b p) (free-ranged (length (b .requests)) (b .requests) p (getD (b .next) p (record { 0 = pos 0 })) (f .ranged p g)))
+        (after-ranged (given b p) (given-ranged b p f g))
     go false i = rw (getD-set-other (b .next) p q (after (given b p)) (record { 0 = pos 0 }) (eqb-false q p i)) (f .ranged q h)
 
 inv-ask : (b : Model) (l : ℕ) (n : FrontNumber) (p : ℕ) → Invariant b → Invariant (M.ask b l n p)

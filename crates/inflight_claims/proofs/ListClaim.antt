@@ -1,13 +1,14 @@
 -- The list claim, proved.
 -- Assumes nothing.
-use mathlib.Core.Path.{_≡_, refl, sym, ap, _∙_}
-use Prim.Native.Nat.{ℕ, _≤_}
+use mathlib.Core.Path.{_≡_, refl, sym, ap, _∙_, subst}
+use Prim.Native.Nat.{ℕ, _≤_, _<_, _^_}
 use native.Mathlib.Omega.{arith}
-use mathlib.Core.Bool.{Bool, true, false}
+use mathlib.Core.Bool.{Bool, true, false, false≢true}
 use lib.Dec.{eqb}
-use lib.IntN.{pos}
+use lib.IntN.{ℤ, pos, negsuc}
+use lib.Signed.{mag, ltZ, leZ}
 use lib.ListN.{length}
-use borrow.Author.Tests.{eqb-true, eqb-false, eq-eqb, ne-eqb, le-ltb}
+use borrow.Author.Tests.{eqb-true, eqb-false, eq-eqb, ne-eqb, le-ltb, le-leb, ltb-false}
 use Rattle.wire.specs.Choice.{pick}
 use Rattle.inflight.specs.Matching.{matching, load, capacityTaken}
 use Rattle.inflight.specs.Model.{Model, empty, askRefusal, askAnswer, given}
@@ -19,9 +20,10 @@ use Rattle.inflight.specs.declared.AskAnswer.the-variants.{Accepted, Refused}
 use Rattle.inflight.specs.declared.Key.the-variants.{Reply}
 use Rattle.inflight.proofs.NumberLaws.{ne-same}
 use Rattle.inflight.proofs.AskLaws.{Applies, ask-full, ask-under, ask-gone, ask-left}
-use Rattle.inflight_claims.specs.ListClaim.{Valid, Capacity, Kept, Listed}
-use Rattle.inflight_claims.proofs.Invariant.{Ranged, Invariant, inv-empty, inv-at, new-number}
-use Rattle.inflight_claims.proofs.Same.{run-same, fresh-model}
+use Rattle.inflight_claims.specs.ListClaim.{Valid, Capacity, Kept, ListClaim, Listed, AllFirsts}
+use Rattle.inflight_claims.proofs.Capacity.{accepts, bounded-size}
+use Rattle.inflight_claims.proofs.Invariant.{Ranged, Invariant, inv-empty, inv-at, given-ranged, new-number}
+use Rattle.inflight_claims.proofs.Same.{run-same, fresh-ready, ready-not-below, fresh-model}
 
 module _ (m : Model) (l : ℕ) (n : FrontNumber) (p : ℕ) where
   pub answer-yes : askRefusal m l n p ≡ 0 → askAnswer m l n p ≡ Accepted (given m p)
@@ -71,6 +73,7 @@ pub kept : (m : Model) → Invariant m → Kept m
 kept m f =
     record {
       capacity = λ l n p v. capacity m l n p v;
+      size = bounded-size (m .requests) (f .bounded);
       most = f .bounded .most;
       within = f .bounded .within;
       once = f .once;
@@ -78,7 +81,13 @@ kept m f =
       new = λ l n p x a.
           let e = answer-accepted m l n p x a in
           ap (λ (y : PublisherNumber). length (matching (Reply p y) (m .requests))) (sym (e .1)) ∙ new-number m l n p f (e .0);
+      fromOne = λ l n p x a.
+          let e = answer-accepted m l n p x a in
+          rw (← e .1) (from-one (given m p) (given-ranged m p f (accepts m l n p (e .0) .range)));
     }
+  where
+    from-one : (x : PublisherNumber) → Ranged x → leZ (pos 1) (x .0) ≡ true
+    from-one x r = rw (r .is) (le-leb 1 (r .at) (r .low))
 
 pub listed : Listed
 listed n a b cs =
@@ -86,6 +95,19 @@ listed n a b cs =
     let r : Ranged first = record { at = n; is = refl; low = a; high = b } in
     let e = fresh-model first (le-ltb n 1 a) in
     record {
+      ready = fresh-ready first (le-ltb n 1 a);
       heard = run-same cs (freshOf first .table) (rw e (inv-empty first r)) ∙ ap (λ (m : Model). modelRun m cs) e;
       kept = λ before rest q. kept (modelAt (empty first) before) (inv-at first r before);
     }
+
+-- a first number that fresh accepts is from 1 to the largest
+pub all-firsts : AllFirsts
+all-firsts first f r cs = go (first .0) refl (ready-not-below first r)
+  where
+    go : (z : ℤ) → first .0 ≡ z → ltZ (first .0) (pos 1) ≡ false → ListClaim first cs
+    go (pos n) e h =
+        let low : 1 ≤ n = ltb-false n 1 (ap (λ (x : ℤ). ltZ x (pos 1)) (sym e) ∙ h) in
+        let high : n < 2 ^ 63 = subst (λ (x : ℤ). mag x < 2 ^ 63) e (f .sfits) in
+        let is : record { 0 = pos n } ≡ first = ap (λ (x : ℤ). record { 0 = x }) (sym e) in
+        subst (λ (x : PublisherNumber). ListClaim x cs) is (listed n low (omega arith) cs)
+    go (negsuc n) e h = absurd (false≢true (sym h ∙ ap (λ (x : ℤ). ltZ x (pos 1)) e))

@@ -23,6 +23,8 @@ use Rattle.inflight.specs.declared.Table.{Table}
 use Rattle.inflight.specs.declared.Key.{Key}
 use Rattle.inflight.specs.declared.Key.the-variants.{Reply, Cancel, Closed, Lost}
 use Rattle.inflight.specs.declared.Asked.{Asked}
+use Rattle.inflight.specs.declared.FreshAnswer.the-variants as F
+use Rattle.inflight.specs.declared.Started.{Started}
 use Rattle.inflight.specs.declared.AskAnswer.the-variants as A
 use Rattle.inflight_claims.specs.EveryTable.{AsModel, isAsk, EveryTable}
 use Rattle.inflight_claims.proofs.Capacity.{accepts, bounded-space}
@@ -130,6 +132,22 @@ pub heard-at : (cs : List Call) (c : Call) (t : Table) → Invariant (modelOf t)
 heard-at cs c t f =
     let s = stays cs t f in
     same-call (tableAt t cs) c (s .inv) .answer ∙ ap (λ (b : Model). modelHeard b c) (s .model)
+
+-- fresh accepts a first number that is not below 1
+pub fresh-ready : (first : PublisherNumber) → ltZ (first .0) (pos 1) ≡ false → T.freshOf first .answer ≡ F.Ready
+unfolding T.freshOf
+fresh-ready first h = rw h
+
+-- and no other
+pub ready-not-below : (first : PublisherNumber) → T.freshOf first .answer ≡ F.Ready → ltZ (first .0) (pos 1) ≡ false
+unfolding T.freshOf
+ready-not-below first r = go (ltZ (first .0) (pos 1)) refl r
+  where
+    go : (b : Bool) → ltZ (first .0) (pos 1) ≡ b
+        → pick {A = Started} b (record { table = T.emptyTable (record { 0 = pos 1 }); answer = F.Refused 30 }) (record { table = T.emptyTable first; answer = F.Ready }) .answer ≡ F.Ready
+        → b ≡ false
+    go true e q = cc
+    go false e q = refl
 
 -- a fresh table reads as the empty model
 pub fresh-model : (first : PublisherNumber) → ltZ (first .0) (pos 1) ≡ false → modelOf (T.freshOf first .table) ≡ M.empty first

@@ -1,6 +1,7 @@
 -- Demand 2's delivery, one claim about the list. For every first number from 1 on and every list of calls, a reply goes to the one ask that
 -- carried its number to that publisher, once, if that is still in flight, and else nowhere; and a number comes to a publisher again only
--- after its numbering has gone right round. All of it is said of the calls of the list and of what was heard of them.
+-- after its numbering has gone right round. All of it is said of the calls of the list and of what was heard of them, or would be heard of
+-- one call more.
 -- Assumes nothing.
 use mathlib.Core.Path.{_≡_}
 use Prim.Native.Nat.{ℕ, zero, suc, _+_, _≤_, _<_}
@@ -22,7 +23,7 @@ use Rattle.inflight.specs.declared.ReplyAnswer.the-variants as R
 use Rattle.inflight.specs.declared.CancelAnswer.the-variants as C
 use Rattle.inflight.specs.declared.DropAnswer.the-variants as D
 
--- what is heard of a call that is made after some calls
+-- what is heard of a call that is made after some calls, or would be heard if it were made
 abbrev pub Answers : Type 0
 Answers = List Call → Call → Heard
 
@@ -129,11 +130,16 @@ pub record Delivery (ans : Answers) (first : PublisherNumber) (cs : List Call) :
   -- a reply to which no such ask belongs, and to which 30 and 12 do not apply, finds nothing
   pub nowhere : (p : ℕ) (x : PublisherNumber) → p < 8 → (x .0 ≡ pos 0 → ⊥) → ((l : ℕ) (f : FrontNumber) → Carried ans cs (request l f p x) → ⊥)
       → ans cs (reply p x) ≡ replied (R.Refused 34)
+  -- a late answer: a reply to an ask that was freed since finds nothing until the numbering of its publisher has gone right round
+  pub overdue : (e : Request) (before since : List Call) → cs ≡ before ++ askFor e ∷ since → ans before (askFor e) ≡ asked (A.Accepted (e .number))
+      → freedSince ans e (before ++ askFor e ∷ []) since ≡ true
+      → gone ans first (e .publisher) cs < gone ans first (e .publisher) (before ++ askFor e ∷ []) + round
+      → ans cs (reply (e .publisher) (e .number)) ≡ replied (R.Refused 34)
   -- an accepted ask gets the next number of its publisher, passing over any in flight with it
   pub numbered : (e : Request) → ans cs (askFor e) ≡ asked (A.Accepted (e .number))
       → e .number ≡ steps (passed ans first (e .publisher) cs (gone ans first (e .publisher) cs) + gone ans first (e .publisher) cs) first
-  -- so a number comes to a publisher again only after its numbering has gone right round: "late" means before that
-  pub late : (e d : Request) (before since : List Call) → cs ≡ before ++ askFor e ∷ since → ans before (askFor e) ≡ asked (A.Accepted (e .number))
+  -- so a number comes to a publisher again only after its numbering has gone right round
+  pub again : (e d : Request) (before since : List Call) → cs ≡ before ++ askFor e ∷ since → ans before (askFor e) ≡ asked (A.Accepted (e .number))
       → ans cs (askFor d) ≡ asked (A.Accepted (d .number))
       → d .publisher ≡ e .publisher → d .number ≡ e .number
       → gone ans first (e .publisher) (before ++ askFor e ∷ []) + round ≤ gone ans first (e .publisher) (cs ++ askFor d ∷ [])

@@ -1,5 +1,6 @@
 -- Every table value, also one that no fresh table leads to: each call answers, writes its slice and leaves the table as the model's rules give
--- with the table's requests in flight; only an ask that finds all 64 places taken, which they would accept, is refused with 33.
+-- with the table's requests in flight; only an ask that finds all 64 places taken, which they would accept, is refused with 33. Document 01
+-- speaks of fresh tables alone: this is a property of a table that keeps its requests in the order of acceptance, not a rule.
 -- Assumes nothing.
 use mathlib.Core.Path.{_≡_}
 use Prim.Native.Nat.{ℕ, _≤_, _<_}

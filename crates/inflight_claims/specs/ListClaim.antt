@@ -5,8 +5,12 @@
 use mathlib.Core.Path.{_≡_}
 use Prim.Native.Nat.{ℕ, _≤_, _<_}
 use mathlib.Core.List.{List, _++_}
+use mathlib.Core.Bool.{true}
 use lib.IntN.{pos}
+use lib.Signed.{leZ}
 use lib.ListN.{length}
+use mir.Syntax.{w64}
+use mir.Val.{SFits}
 use Rattle.inflight.specs.Matching.{matching, load, capacityTaken}
 use Rattle.inflight.specs.Model.{Model, empty, askAnswer, given}
 use Rattle.inflight.specs.Tables.{freshOf}
@@ -14,6 +18,7 @@ use Rattle.inflight.specs.Calls.{Call, tableRun, modelRun, modelAt}
 use Rattle.inflight.specs.declared.FrontNumber.{FrontNumber}
 use Rattle.inflight.specs.declared.PublisherNumber.{PublisherNumber}
 use Rattle.inflight.specs.declared.AskAnswer.the-variants.{Accepted, Refused}
+use Rattle.inflight.specs.declared.FreshAnswer.the-variants as F
 use Rattle.inflight.specs.declared.Key.the-variants.{Reply, Cancel}
 
 -- "an ask is valid if 30, 12 and 31 don't apply"
@@ -37,6 +42,8 @@ pub record Capacity (m : Model) (l : ℕ) (n : FrontNumber) (p : ℕ) : Type 0 w
 -- what holds of the model at every point
 pub record Kept (m : Model) : Type 0 where
   pub capacity : (l : ℕ) (n : FrontNumber) (p : ℕ) → Valid m l n p → Capacity m l n p
+  -- "64 tickets"
+  pub size : length (m .requests) ≤ 64
   -- no load is over 16
   pub most : (p : ℕ) → load (m .requests) p ≤ 16
   -- the eight loads, each counted as at least 4, never add up to more than 64
@@ -47,13 +54,23 @@ pub record Kept (m : Model) : Type 0 where
   pub frontOnce : (l : ℕ) (n : FrontNumber) → length (matching (Cancel l n) (m .requests)) ≤ 1
   -- the number that an accepted ask is given is not in flight with its publisher
   pub new : (l : ℕ) (n : FrontNumber) (p : ℕ) (x : PublisherNumber) → askAnswer m l n p ≡ Accepted x → length (matching (Reply p x) (m .requests)) ≡ 0
+  -- and is at least 1
+  pub fromOne : (l : ℕ) (n : FrontNumber) (p : ℕ) (x : PublisherNumber) → askAnswer m l n p ≡ Accepted x → leZ (pos 1) (x .0) ≡ true
 
 pub record ListClaim (first : PublisherNumber) (cs : List Call) : Type 0 where
-  -- every call's answer, and the whole lent slice after it
+  -- fresh accepts the first number
+  pub ready : freshOf first .answer ≡ F.Ready
+  -- all that a caller gets: of every call its result or refusal number, and of closed and lost the whole lent slice after it, at every place
+  -- of the list. The tables themselves are heard by the calls that follow, since the list is any
   pub heard : tableRun (freshOf first .table) cs ≡ modelRun (empty first) cs
   -- at every point of the list
   pub kept : (before rest : List Call) → cs ≡ before ++ rest → Kept (modelAt (empty first) before)
 
--- the claim: for every first number from 1 to the largest, and every list of calls
+-- the claim: for every first number from 1 to the largest, and every list of calls. A lower first number is refused with 30, and the table
+-- that is handed back with the refusal is the one that starts at 1
 abbrev pub Listed : Type 0
 Listed = (n : ℕ) → 1 ≤ n → n ≤ 9223372036854775807 → (cs : List Call) → ListClaim (record { 0 = pos n }) cs
+
+-- and that is every first number that fresh accepts
+abbrev pub AllFirsts : Type 0
+AllFirsts = (first : PublisherNumber) → SFits w64 (first .0) → freshOf first .answer ≡ F.Ready → (cs : List Call) → ListClaim first cs

@@ -4,12 +4,14 @@
 // decides anything: what a call answers is said by the crate that it wraps. The types that matter are `RelayArrival` and
 // the `Link` of crate link_state, which the caller keeps and lends.
 mod arrivals;
+mod pids;
 mod place;
 mod start;
 mod times;
 
 pub use arrivals::relay_receive;
 use link_state::Link;
+pub use pids::relay_read_netpids;
 pub use place::relay_body;
 pub use start::relay_set_up;
 pub use times::relay_clock_difference;

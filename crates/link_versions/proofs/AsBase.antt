@@ -2,13 +2,12 @@
 use borrow.Author.Tests.{le-ltb}
 use native.Mathlib.Omega.{arith}
 use mathlib.Core.Path.{_≡_, refl, ap, _∙_}
-use mathlib.Core.Bool.{Bool, true, false, not, _&&_}
+use mathlib.Core.Bool.{false, not, _&&_}
 use mathlib.Core.List.{List}
 use Prim.Native.Nat.{ℕ, _-_, _≤_}
 use lib.ListN.{length, take}
 use lib.Dec.{ltb, leb, eqb}
 use Rattle.wire.specs.Bytes.{le, part, within}
-use Rattle.wire.specs.Choice.{pick}
 use Rattle.wire.proofs.ChoiceLaws.{by-row}
 use Rattle.link_state.specs.declared.Link.{Link}
 use Rattle.link_state.specs.declared.Settings.{Settings}
@@ -28,9 +27,8 @@ use Rattle.opening.specs.Nonce.{leastOf, versionAt, cipherRefused, beyondOf, no
 use Rattle.opening.specs.Handshake.{flagOf, handshakeRefusal}
 use Rattle.link.specs.KeepAlive.{idAt, pingRefusal, pongRefusal}
 use Rattle.link.specs.Look.{turnRefusal, lookOf}
-use Rattle.link.specs.Next.{closedOf, closesOf, refusedOf, afterOf}
-use Rattle.link.specs.Receive.{bodyRefusal, refuse, gives, receiveBy, receiveOf}
-use Rattle.link.specs.declared.Received.{Received}
+use Rattle.link.specs.Next.{closesOf, refusedOf}
+use Rattle.link.specs.Receive.{bodyRefusal, refuse, receiveBy, receiveOf}
 use Rattle.link_versions.specs.Calls.{Call, afterCalls}
 use Rattle.link_versions.specs.Before.{nonceBefore, bodyBefore, closesBefore, refuseBefore}
 use Rattle.link_versions.specs.Before.{receiveByBefore, receiveBefore}

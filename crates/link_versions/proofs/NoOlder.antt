@@ -1,10 +1,10 @@
 -- A link that accepted a Nonce has a version at least its lowest, after every list of calls. Assumes nothing.
-use borrow.Author.Tests.{ltb-true, ltb-false, leb-true, eqb-true, eq-eqb, le-ltb}
+use borrow.Author.Tests.{ltb-true, leb-true, eqb-true, eq-eqb}
 use native.Mathlib.Omega.{arith}
 use mathlib.Core.Path.{_≡_, refl, subst, _∙_}
-use mathlib.Core.Bool.{Bool, true, false, not}
+use mathlib.Core.Bool.{Bool, true, false}
 use mathlib.Core.List.{List, [], _∷_}
-use Prim.Native.Nat.{ℕ, _+_, _%_, _≤_, _<_}
+use Prim.Native.Nat.{ℕ, _+_, _%_, _≤_}
 use lib.ListN.{length}
 use lib.Dec.{ltb, leb, eqb}
 use Rattle.wire.specs.Bytes.{within}
@@ -20,7 +20,7 @@ use Rattle.link_state.specs.Turn.{maySend, stageAfter}
 use Rattle.packet.specs.Allowed.{allowedOf, refuses}
 use Rattle.packet.specs.declared.Arrival.{Arrival}
 use Rattle.packet.specs.declared.Arrival.the-variants.{Incomplete, Packet, Refused}
-use Rattle.opening.specs.Nonce.{versionAt, nonceRefusal}
+use Rattle.opening.specs.Nonce.{nonceRefusal}
 use Rattle.link.specs.Look.{lookOf}
 use Rattle.link.specs.Next.{closedOf, closesOf, refusedOf, versionAfter, afterOf}
 use Rattle.link.specs.Receive.{bodyRefusal, refuse, gives, receiveBy, receiveOf}
@@ -57,7 +57,7 @@ module _ (l : Link) (s : List ℕ) (m : Moment) (P : Received → Type 0) (kind 
   abbrev body : List ℕ
   body = within s at len
 
-  by-body : ((k : ℕ) → P (refuse l k))
+  pub by-body : ((k : ℕ) → P (refuse l k))
       → (refuses (bodyRefusal l kind body m) ≡ false → P (gives (afterOf l kind body m) (Packet kind consumed at len)))
       → P (receiveBy l s m (Packet kind consumed at len))
   by-body x y =

@@ -1,5 +1,7 @@
-// Theorems about a link's lowest version, and no code: no link has accepted, or writes, an older one.
+// Theorems about the calls on one link, and no code: no link has accepted, or writes, a version older than its lowest, and
+// the clock difference of a Nonce that was accepted is handed back.
 //
 // They speak of the definitions that the contracts of the crates below equate every call with, so they hold of the code,
-// after every list of calls (specs/Calls.antt). The theorems to read are in proofs/NoOlder.antt and proofs/Writes.antt;
-// proofs/AsBase.antt says that with lowest version 0 receive is what it was before there was one (specs/Before.antt).
+// after every list of calls (specs/Calls.antt). The theorems to read are in proofs/NoOlder.antt, proofs/Writes.antt and
+// proofs/Clock.antt; proofs/AsBase.antt says that with lowest version 0 receive is what it was before there was one
+// (specs/Before.antt).

@@ -1,8 +1,8 @@
 // The message reader for C: one exported function, which wraps `message::read_message` and has its contract.
 //
 // The body passes as a pointer and a length, and the message as a struct of numbers and flags. Nothing here decides
-// anything: what a body says is told by the crate `message`. README.md declares the function for C, bench/ for Rust. The
-// type that matters is `RelayMessage`.
+// anything: what a body says is told by the crate `message`. include/relay.h declares the function for C, bindings/rust
+// for Rust. The type that matters is `RelayMessage`.
 mod messages;
 
 pub use messages::relay_read_message;

@@ -32,10 +32,10 @@ use Rattle.message.specs.PartOf.{answerPart, partOf}
 use Rattle.cancel_out.specs.WriteShort.{cancelBytes, cancelAnswer, finBytes, finAnswer}
 use Rattle.message.specs.declared.Message.{Message}
 use Rattle.message.specs.declared.Message.the-variants as M
-use Rattle.message_laws.specs.Forms.{ReqError, formBytes, formMark}
+use Rattle.message_laws.specs.Forms.{Front, ReqError, formBytes, formMark, frontBytes, frontedPayload}
 use Rattle.message_laws.specs.RoundTrip.{ReadsAs, ActorFits, TimeoutFits, payloadAt}
 use Rattle.message_laws.proofs.InvokeBack.{read-back, invoke-part}
-use Rattle.message_laws.proofs.ResultBack.{payload-read, payload-part, form-read}
+use Rattle.message_laws.proofs.ResultBack.{payload-read, payload-part, fronted-payload-read, fronted-payload-part, form-read}
 
 -- the front of the lent bytes, where the body x was stored
 reads-front : (read : List ℕ → Message) (s x : List ℕ) (m : Message) (p : List ℕ) → s ≡ x → ReadsAs read x m p → ReadsAs read s m p
@@ -86,6 +86,14 @@ module _ (d : List ℕ) {k : ℕ} where
       let g = told n false (length x) (length d) e in
       let l : length t < 16777216 = omega (arith, g .3, error-length n code t, size-over (length t)) in
       reads-front (readMessage Client 0x63aeda4e) _ x _ t (front d x n false e) (form-read n code t f (g .0) fc l ReqError)
+
+-- a result with a payload that the writer would not refuse with 15, behind a reqResultHeader or not: we write none
+pub fronted-payload-back : (h : Front) (n : ℤ) (p : List ℕ) → SFits w64 n → (ofZ w64 n ≡ 0 → ⊥)
+    → readsAsHeader Client p ≡ false
+    → ReadsAs (readMessage Client 0x63aeda4e) (frontedPayload h n p)
+    (M.Result (record { number = n; answer = Payload (8 + length (frontBytes h)) (length p) })) p
+unfolding readMessage toClient partOf answerPart
+fronted-payload-back h n p f some c = (ap ofReply (fronted-payload-read h n p f some c), fronted-payload-part h n p)
 
 -- the fins, whose answer is a size of 0
 pub client-fin-back : (d : List ℕ) → ReadsAs (readMessage Server 0x0b73429e) (take 0 (bytesAfter finAnswer d finBytes)) M.ClientFin []

@@ -1,7 +1,7 @@
--- The four forms of an error (document 01: "Error values .. All four give one meaning: number, code, text"), and what a
--- message says of an error. Assumes nothing.
+-- The four forms of an error (document 01: "Error values .. All four give one meaning: number, code, text"), what may
+-- stand in front of an answer inside a result, and what a message says of an error. Assumes nothing.
 use Prim.Native.Nat.{ℕ}
-use mathlib.Core.List.{List, _++_}
+use mathlib.Core.List.{List, [], _++_}
 use lib.IntN.{ℤ}
 use mir.Syntax.{w32, w64}
 use mir.Val.{ofZ}
@@ -36,6 +36,36 @@ formMark Old = bytes 0 0
 -- the body: number, mark, code, text
 unfoldable pub formBytes : Form → ℤ → ℤ → List ℕ → List ℕ
 formBytes f n code t = bytes 8 (ofZ w64 n) ++ (formMark f ++ (bytes 4 (ofZ w32 code) ++ textBytes t))
+
+-- ---- behind a header
+
+-- "number, at most one reqResultHeader 0x8cc84ce1 (mask, must be 0 ..), then the rest or an error"
+pub data Front : Type 0 where
+  Plain : Front
+  Headed : Front
+
+-- none, or the header and its mask
+unfoldable pub frontBytes : Front → List ℕ
+frontBytes Plain = []
+frontBytes Headed = bytes 4 0x8cc84ce1 ++ bytes 4 0
+
+-- inside a result; the old error message has no header
+abbrev pub formFront : Front → Form → List ℕ
+formFront h ReqError = frontBytes h
+formFront h Wrapped = frontBytes h
+formFront h (Numbered ignored) = frontBytes h
+formFront h Old = []
+
+-- the body: number, front, mark, code, text
+unfoldable pub frontedBytes : Front → Form → ℤ → ℤ → List ℕ → List ℕ
+frontedBytes h f n code t =
+    bytes 8 (ofZ w64 n) ++ (formFront h f ++ (formMark f ++ (bytes 4 (ofZ w32 code) ++ textBytes t)))
+
+-- the body of a result with a payload (document 01: a page): number, front, payload
+unfoldable pub frontedPayload : Front → ℤ → List ℕ → List ℕ
+frontedPayload h n p = bytes 8 (ofZ w64 n) ++ (frontBytes h ++ p)
+
+-- ---- the meaning
 
 -- number, code, text; or that a message is no error
 pub data Meaning : Type 0 where

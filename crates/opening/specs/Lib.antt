@@ -2,3 +2,4 @@
 pub mod Clock
 pub mod Nonce
 pub mod Handshake
+pub mod Pids

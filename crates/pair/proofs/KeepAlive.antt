@@ -24,7 +24,7 @@ use Rattle.pair.proofs.SumLaws.{small-bytes}
 use Rattle.pair.proofs.RoundTrip.{received}
 
 -- an ID, as the peer reads it
-id-read : (id : ℕ) → id < 2 ^ 64 → le (part (bytes 8 id) 0 8) ≡ id
+pub id-read : (id : ℕ) → id < 2 ^ 64 → le (part (bytes 8 id) 0 8) ≡ id
 id-read id h =
     let n : length (bytes 8 id) ≡ 8 = length-bytes 8 id in
     ap le (take-all 8 (bytes 8 id) (omega arith)) ∙ le-bytes 8 id h
@@ -37,15 +37,15 @@ module _ (k : Link) (over : 4 ≤ k .stage) where
   before = le-ltb (k .stage) 2 (omega arith)
 
   -- 24 bytes pass after the opening
-  length-24 : (id : ℕ) → lengthRefusal k (length (bytes 8 id) + 16) ≡ 0
+  pub length-24 : (id : ℕ) → lengthRefusal k (length (bytes 8 id) + 16) ≡ 0
   unfolding lengthRefusal
   length-24 id = simp (length-bytes, no-opening)
 
-  ping-allowed : allowedOf k 0x5730a2df ≡ true
+  pub ping-allowed : allowedOf k 0x5730a2df ≡ true
   unfolding allowedOf
   ping-allowed = simp (before, no-opening)
 
-  pong-allowed : allowedOf k 0x8430eaa7 ≡ true
+  pub pong-allowed : allowedOf k 0x8430eaa7 ≡ true
   unfolding allowedOf
   pong-allowed = simp (before, no-opening)
 

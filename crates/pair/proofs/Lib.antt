@@ -4,4 +4,7 @@ pub mod RoundTrip
 pub mod SentReceived
 pub mod StepAlike
 pub mod KeepAlive
+pub mod KeptAlive
+pub mod Pids
 pub mod Opening
+pub mod InTurn

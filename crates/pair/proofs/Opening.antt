@@ -35,11 +35,12 @@ use Rattle.send_rules.specs.Control.{sendRefusal, controlAnswer, stepBy, contro
 use Rattle.nonce_out.specs.Nonce.{versionOf, nonceHead, pointOf, nonceBody, nonceStep, nonceBuffer}
 use Rattle.handshake_out.specs.Handshake.{flagsOf, pidBytes, handshakeBody, handshakeStep, handshakeBuffer}
 use Rattle.send_rules.specs.Sent.{awaitsSent, awaitedSent, owesSent, sentOf}
-use Rattle.handshake_out.specs.declared.NetPid.{NetPid}
+use Rattle.opening.specs.declared.NetPid.{NetPid}
 use Rattle.nonce_out.proofs.BodyLaws.{length-nonce}
 use Rattle.handshake_out.proofs.BodyLaws.{length-handshake}
 use Rattle.pair.specs.Awaits.{Awaits}
 use Rattle.pair.specs.Opens.{during, Caller, Able, Opened, opens}
+use Rattle.pair.proofs.Pids.{small-handshake}
 use Rattle.pair.proofs.SumLaws.{small-append, small-bytes}
 use Rattle.pair.proofs.RoundTrip.{field}
 use Rattle.pair.proofs.SentReceived.{sent-received}
@@ -129,21 +130,13 @@ module _ (version time : ℕ) (random : List ℕ) where
       off true = refl
       off false = refl
 
-small-pid : (p : NetPid) → Small (pidBytes p)
-unfolding pidBytes
-small-pid p =
-    small-append (bytes 4 (p .ip)) (bytes 2 (p .port) ++ (bytes 2 (p .pid) ++ bytes 4 (p .start))) (small-bytes 4 (p .ip))
-    (small-append (bytes 2 (p .port)) (bytes 2 (p .pid) ++ bytes 4 (p .start)) (small-bytes 2 (p .port))
-    (small-append (bytes 2 (p .pid)) (bytes 4 (p .start)) (small-bytes 2 (p .pid)) (small-bytes 4 (p .start))))
-
 module _ (flag : Bool) (s p : NetPid) where
   -- the Handshake with the flag, or without
   abbrev hand : List ℕ
   hand = handshakeBody (pick flag 0x800 0) s p
 
   small-hand : Small hand
-  unfolding handshakeBody
-  small-hand = small-append (bytes 4 (pick flag 0x800 0)) (pidBytes s ++ pidBytes p) (small-bytes 4 (pick flag 0x800 0)) (small-append (pidBytes s) (pidBytes p) (small-pid s) (small-pid p))
+  small-hand = small-handshake (pick flag 0x800 0) s p
 
   hand-flags : le (part hand 0 4) ≡ pick flag 0x800 0
   unfolding handshakeBody
@@ -186,7 +179,7 @@ module _ (l k : Link) (kind : ℕ) (body b : List ℕ) (n : ℕ) (is : length bo
       sent-received l kind false body b k (n + 16) written a (ap (λ (x : ℕ). lengthRefusal k (x + 16)) is ∙ len) may number (omega arith) kind-fits g m ok
       ∙ ap (λ (x : ℕ). gives (afterOf k kind body m) (Packet kind (x + 16) 12 x)) is
 
-module _ (oc os : Bool) (lc ls : ℕ) (low-c : lc ≤ 2) (low-s : ls ≤ 2) (c s : Caller) (b1 b2 b3 b4 : List ℕ) (g : Able c s b1 b2 b3 b4) where
+module _ (oc os : Bool) (lc ls : ℕ) (low-c : lc ≤ 2) (low-s : ls ≤ 2) (c s : Caller) (b1 b2 b3 b4 : List ℕ) (m3 m4 : Moment) (g : Able c s b1 b2 b3 b4) where
   abbrev C : Settings
   C = record { server = false; allows = oc; lowest = lc }
 
@@ -218,46 +211,46 @@ module _ (oc os : Bool) (lc ls : ℕ) (low-c : lc ≤ 2) (low-s : ls ≤ 2) (c s
   s3 = during S (os && oc) 2 3 4294967295 0
 
   abbrev nonceC : List ℕ
-  nonceC = nonceBody 2 (c .moment .time) (c .random)
+  nonceC = nonceBody 2 (c .told .time) (c .random)
 
   abbrev nonceS : List ℕ
-  nonceS = nonceBody 2 (s .moment .time) (s .random)
+  nonceS = nonceBody 2 (s .told .time) (s .random)
 
   -- the client's Nonce
-  sent1 : nonceStep c0 (c .random) (c .moment) (length b1) ≡ record { link = c1; answer = Written 76 }
+  sent1 : nonceStep c0 (c .random) (c .told) (length b1) ≡ record { link = c1; answer = Written 76 }
   unfolding nonceStep versionOf sendRefusal maySend allowedOf sentOf stageAfter awaitsSent awaitedSent owesSent
   sent1 = sends c0 s0 0x7acb87aa nonceC b1 60 (length-nonce 2 _ (c .random) (g .client-random)) (lit< tt) (g .room1) refl
 
-  got1 : receiveOf s0 (nonceBuffer c0 (c .random) (c .moment) b1) (s .moment) ≡ gives s1 (Packet 0x7acb87aa 76 12 60)
+  got1 : receiveOf s0 (nonceBuffer c0 (c .random) (c .told) b1) (s .heard) ≡ gives s1 (Packet 0x7acb87aa 76 12 60)
   unfolding nonceBuffer castagnoliOf turnRefusal sendRefusal maySend lengthRefusal allowedOf bodyRefusal afterOf agreedAfter versionAfter stageAfter awaitsAfter owesAfter owedAfter versionOf
   got1 =
-      receives c0 s0 0x7acb87aa nonceC b1 60 (length-nonce 2 _ (c .random) (g .client-random)) (lit< tt) (g .room1) refl (s .moment)
-      (record { number = refl; checksum = refl; turn = refl }) refl refl (lit< tt) (lit< tt) (small-nonce 2 (c .moment .time) (c .random) (g .client-bytes))
-      (nonce-passes 2 (c .moment .time) (c .random) S (s .moment) (g .client-random) (omega arith) low-s (g .client-clock) (near (c .moment .time) (s .moment .time) (g .not-ahead) (g .not-behind)))
-      ∙ rw (nonce-version 2 (c .moment .time) (c .random) (lit< tt))
+      receives c0 s0 0x7acb87aa nonceC b1 60 (length-nonce 2 _ (c .random) (g .client-random)) (lit< tt) (g .room1) refl (s .heard)
+      (record { number = refl; checksum = refl; turn = refl }) refl refl (lit< tt) (lit< tt) (small-nonce 2 (c .told .time) (c .random) (g .client-bytes))
+      (nonce-passes 2 (c .told .time) (c .random) S (s .heard) (g .client-random) (omega arith) low-s (g .client-clock) (near (c .told .time) (s .heard .time) (g .client-not-ahead) (g .client-not-behind)))
+      ∙ rw (nonce-version 2 (c .told .time) (c .random) (lit< tt))
 
   -- the server's Nonce
-  sent2 : nonceStep s1 (s .random) (s .moment) (length b2) ≡ record { link = s2; answer = Written 76 }
+  sent2 : nonceStep s1 (s .random) (s .told) (length b2) ≡ record { link = s2; answer = Written 76 }
   unfolding nonceStep versionOf sendRefusal maySend allowedOf sentOf stageAfter awaitsSent awaitedSent owesSent
   sent2 = sends s1 c1 0x7acb87aa nonceS b2 60 (length-nonce 2 _ (s .random) (g .server-random)) (lit< tt) (g .room2) refl
 
-  got2 : receiveOf c1 (nonceBuffer s1 (s .random) (s .moment) b2) (c .moment) ≡ gives c2 (Packet 0x7acb87aa 76 12 60)
+  got2 : receiveOf c1 (nonceBuffer s1 (s .random) (s .told) b2) (c .heard) ≡ gives c2 (Packet 0x7acb87aa 76 12 60)
   unfolding nonceBuffer castagnoliOf turnRefusal sendRefusal maySend lengthRefusal allowedOf bodyRefusal afterOf agreedAfter versionAfter stageAfter awaitsAfter owesAfter owedAfter versionOf
   got2 =
-      receives s1 c1 0x7acb87aa nonceS b2 60 (length-nonce 2 _ (s .random) (g .server-random)) (lit< tt) (g .room2) refl (c .moment)
-      (record { number = refl; checksum = refl; turn = refl }) refl refl (lit< tt) (lit< tt) (small-nonce 2 (s .moment .time) (s .random) (g .server-bytes))
-      (nonce-passes 2 (s .moment .time) (s .random) C (c .moment) (g .server-random) (omega arith) low-c (g .server-clock) (near (s .moment .time) (c .moment .time) (g .not-behind) (g .not-ahead)))
-      ∙ rw (nonce-version 2 (s .moment .time) (s .random) (lit< tt))
+      receives s1 c1 0x7acb87aa nonceS b2 60 (length-nonce 2 _ (s .random) (g .server-random)) (lit< tt) (g .room2) refl (c .heard)
+      (record { number = refl; checksum = refl; turn = refl }) refl refl (lit< tt) (lit< tt) (small-nonce 2 (s .told .time) (s .random) (g .server-bytes))
+      (nonce-passes 2 (s .told .time) (s .random) C (c .heard) (g .server-random) (omega arith) low-c (g .server-clock) (near (s .told .time) (c .heard .time) (g .server-not-ahead) (g .server-not-behind)))
+      ∙ rw (nonce-version 2 (s .told .time) (s .random) (lit< tt))
 
   -- the client's Handshake
   sent3 : handshakeStep c2 (c .pid) (s .pid) (length b3) ≡ record { link = c3; answer = Written 44 }
   unfolding handshakeStep flagsOf sendRefusal maySend allowedOf sentOf stageAfter awaitsSent awaitedSent owesSent
   sent3 = sends c2 s2 0x7682eef5 (hand oc (c .pid) (s .pid)) b3 28 (length-handshake _ (c .pid) (s .pid)) (lit< tt) (g .room3) refl
 
-  got3 : receiveOf s2 (handshakeBuffer c2 (c .pid) (s .pid) b3) (s .moment) ≡ gives s3 (Packet 0x7682eef5 44 12 28)
+  got3 : receiveOf s2 (handshakeBuffer c2 (c .pid) (s .pid) b3) m3 ≡ gives s3 (Packet 0x7682eef5 44 12 28)
   unfolding handshakeBuffer castagnoliOf turnRefusal sendRefusal maySend lengthRefusal allowedOf bodyRefusal afterOf agreedAfter versionAfter stageAfter awaitsAfter owesAfter owedAfter flagsOf
   got3 =
-      receives c2 s2 0x7682eef5 (hand oc (c .pid) (s .pid)) b3 28 (length-handshake _ (c .pid) (s .pid)) (lit< tt) (g .room3) refl (s .moment)
+      receives c2 s2 0x7682eef5 (hand oc (c .pid) (s .pid)) b3 28 (length-handshake _ (c .pid) (s .pid)) (lit< tt) (g .room3) refl m3
       (record { number = refl; checksum = refl; turn = refl }) refl refl (lit< tt) (lit< tt) (small-hand oc (c .pid) (s .pid))
       (hand-passes oc (c .pid) (s .pid) S refl)
       ∙ rw (hand-flag oc (c .pid) (s .pid))
@@ -267,10 +260,10 @@ module _ (oc os : Bool) (lc ls : ℕ) (low-c : lc ≤ 2) (low-s : ls ≤ 2) (c s
   unfolding handshakeStep flagsOf sendRefusal maySend allowedOf sentOf stageAfter awaitsSent awaitedSent owesSent
   sent4 = sends s3 c3 0x7682eef5 (hand (os && oc) (s .pid) (c .pid)) b4 28 (length-handshake _ (s .pid) (c .pid)) (lit< tt) (g .room4) refl
 
-  got4 : receiveOf c3 (handshakeBuffer s3 (s .pid) (c .pid) b4) (c .moment) ≡ gives (during C (oc && (os && oc)) 2 4 0 0) (Packet 0x7682eef5 44 12 28)
+  got4 : receiveOf c3 (handshakeBuffer s3 (s .pid) (c .pid) b4) m4 ≡ gives (during C (oc && (os && oc)) 2 4 0 0) (Packet 0x7682eef5 44 12 28)
   unfolding handshakeBuffer castagnoliOf turnRefusal sendRefusal maySend lengthRefusal allowedOf bodyRefusal afterOf agreedAfter versionAfter stageAfter awaitsAfter owesAfter owedAfter flagsOf
   got4 =
-      receives s3 c3 0x7682eef5 (hand (os && oc) (s .pid) (c .pid)) b4 28 (length-handshake _ (s .pid) (c .pid)) (lit< tt) (g .room4) refl (c .moment)
+      receives s3 c3 0x7682eef5 (hand (os && oc) (s .pid) (c .pid)) b4 28 (length-handshake _ (s .pid) (c .pid)) (lit< tt) (g .room4) refl m4
       (record { number = refl; checksum = off (os && oc); turn = refl }) refl refl (lit< tt) (lit< tt) (small-hand (os && oc) (s .pid) (c .pid))
       (hand-passes (os && oc) (s .pid) (c .pid) C (only oc os))
       ∙ rw (hand-flag (os && oc) (s .pid) (c .pid))
@@ -301,7 +294,7 @@ module _ (oc os : Bool) (lc ls : ℕ) (low-c : lc ≤ 2) (low-s : ls ≤ 2) (c s
 
   -- the exchange of two fresh links
   abbrev exchange : Opened
-  exchange = opens (freshOf C) (freshOf S) c s b1 b2 b3 b4
+  exchange = opens (freshOf C) (freshOf S) c s b1 b2 b3 b4 m3 m4
 
   whole : exchange
       ≡ record {

@@ -17,7 +17,7 @@ use Rattle.send_rules.specs.Sent.{sentOf}
 use Rattle.pair.specs.Awaits.{Awaits}
 
 -- after the opening the stage stays
-stays : (s : ℕ) → 4 ≤ s → stageAfter s ≡ s
+pub stays : (s : ℕ) → 4 ≤ s → stageAfter s ≡ s
 unfolding stageAfter
 stays s h = rw (le-ltb s 4 h)
 
@@ -33,11 +33,11 @@ no-handshake k kind over may = go (eqb kind 0x7acb87aa) (eqb kind 0x7682eef5) (s
 
 -- l sent a packet of a type that is allowed after the opening, and k received it
 module _ (k l : Link) (over-k : 4 ≤ k .stage) (over-l : 4 ≤ l .stage) (kind id : ℕ) (body : List ℕ) (m : Moment) (may : allowedOf k kind ≡ true) where
-  same-sum-k : castagnoliOf (afterOf k kind body m) ≡ castagnoliOf k
+  pub same-sum-k : castagnoliOf (afterOf k kind body m) ≡ castagnoliOf k
   unfolding castagnoliOf afterOf agreedAfter
   same-sum-k = rw (stays (k .stage) over-k, no-handshake k kind over-k may)
 
-  same-sum-l : castagnoliOf (sentOf l kind id) ≡ castagnoliOf l
+  pub same-sum-l : castagnoliOf (sentOf l kind id) ≡ castagnoliOf l
   unfolding castagnoliOf sentOf
   same-sum-l = rw (stays (l .stage) over-l)
 
@@ -45,7 +45,7 @@ module _ (k l : Link) (over-k : 4 ≤ k .stage) (over-l : 4 ≤ l .stage) (kind 
   unfolding turnRefusal afterOf
   same-turn-k = rw (stays (k .stage) over-k)
 
-  same-turn-l : turnRefusal (sentOf l kind id) ≡ turnRefusal l
+  pub same-turn-l : turnRefusal (sentOf l kind id) ≡ turnRefusal l
   unfolding turnRefusal sentOf
   same-turn-l = rw (stays (l .stage) over-l)
 

@@ -14,7 +14,7 @@ use Rattle.packet_out.specs.declared.Sent.{Sent}
 use Rattle.link.specs.Receive.{receiveOf}
 use Rattle.nonce_out.specs.Nonce.{nonceStep, nonceBuffer}
 use Rattle.handshake_out.specs.Handshake.{handshakeStep, handshakeBuffer}
-use Rattle.handshake_out.specs.declared.NetPid.{NetPid}
+use Rattle.opening.specs.declared.NetPid.{NetPid}
 
 -- a link somewhere in its opening, with no Ping
 abbrev pub during : Settings → Bool → ℕ → ℕ → ℕ → ℕ → Link
@@ -33,18 +33,22 @@ during set crc version stage sends gets =
       owed = 0;
     }
 
--- what one side's caller gives: its clock, its random bytes, its NetPID
+-- what one side's caller gives: its clock when it sends its Nonce and when the other's comes, its random bytes, its NetPID
 pub record Caller : Type 0 where
-  pub moment : Moment
+  pub told : Moment
+  pub heard : Moment
   pub random : List ℕ
   pub pid : NetPid
 
--- what is asked of the callers: clocks of 32 bits that are at most 30 apart, 16 random bytes each, and room in the buffers
+-- what is asked of the callers: clocks of 32 bits, at most 30 apart from a Nonce's sending to its receipt, 16 random bytes each,
+-- and room in the buffers
 pub record Able (c s : Caller) (b1 b2 b3 b4 : List ℕ) : Type 0 where
-  pub client-clock : c .moment .time < 2 ^ 32
-  pub server-clock : s .moment .time < 2 ^ 32
-  pub not-ahead : c .moment .time ≤ s .moment .time + 30
-  pub not-behind : s .moment .time ≤ c .moment .time + 30
+  pub client-clock : c .told .time < 2 ^ 32
+  pub server-clock : s .told .time < 2 ^ 32
+  pub client-not-ahead : c .told .time ≤ s .heard .time + 30
+  pub client-not-behind : s .heard .time ≤ c .told .time + 30
+  pub server-not-ahead : s .told .time ≤ c .heard .time + 30
+  pub server-not-behind : c .heard .time ≤ s .told .time + 30
   pub client-random : length (c .random) ≡ 16
   pub client-bytes : (i : ℕ) → getD (c .random) i 0 < 256
   pub server-random : length (s .random) ≡ 16
@@ -61,17 +65,18 @@ pub record Opened : Type 0 where
   pub sent : List Sent
   pub received : List Arrival
 
--- "client Nonce, server Nonce, client Handshake, server Handshake", in the buffers b1, b2, b3, b4
-unfoldable pub opens : Link → Link → Caller → Caller → List ℕ → List ℕ → List ℕ → List ℕ → Opened
-opens client server c s b1 b2 b3 b4 =
-    let sent1 = nonceStep client (c .random) (c .moment) (length b1) in
-    let got1 = receiveOf server (nonceBuffer client (c .random) (c .moment) b1) (s .moment) in
-    let sent2 = nonceStep (got1 .link) (s .random) (s .moment) (length b2) in
-    let got2 = receiveOf (sent1 .link) (nonceBuffer (got1 .link) (s .random) (s .moment) b2) (c .moment) in
+-- "client Nonce, server Nonce, client Handshake, server Handshake", in the buffers b1, b2, b3, b4; the clocks m3, m4 at the
+-- receipt of the Handshakes are any
+unfoldable pub opens : Link → Link → Caller → Caller → List ℕ → List ℕ → List ℕ → List ℕ → Moment → Moment → Opened
+opens client server c s b1 b2 b3 b4 m3 m4 =
+    let sent1 = nonceStep client (c .random) (c .told) (length b1) in
+    let got1 = receiveOf server (nonceBuffer client (c .random) (c .told) b1) (s .heard) in
+    let sent2 = nonceStep (got1 .link) (s .random) (s .told) (length b2) in
+    let got2 = receiveOf (sent1 .link) (nonceBuffer (got1 .link) (s .random) (s .told) b2) (c .heard) in
     let sent3 = handshakeStep (got2 .link) (c .pid) (s .pid) (length b3) in
-    let got3 = receiveOf (sent2 .link) (handshakeBuffer (got2 .link) (c .pid) (s .pid) b3) (s .moment) in
+    let got3 = receiveOf (sent2 .link) (handshakeBuffer (got2 .link) (c .pid) (s .pid) b3) m3 in
     let sent4 = handshakeStep (got3 .link) (s .pid) (c .pid) (length b4) in
-    let got4 = receiveOf (sent3 .link) (handshakeBuffer (got3 .link) (s .pid) (c .pid) b4) (c .moment) in
+    let got4 = receiveOf (sent3 .link) (handshakeBuffer (got3 .link) (s .pid) (c .pid) b4) m4 in
     record {
       client = got4 .link;
       server = sent4 .link;

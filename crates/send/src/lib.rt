@@ -5,10 +5,10 @@
 // writes a byte: `nonce_out`, `handshake_out`, `keep_alive_out`, `message_out` do. The type that matters is `ToSend`.
 mod step;
 
-use handshake_out::NetPid;
 use link_state::Link;
 use link_state::Moment;
 use message_out::Outgoing;
+use opening::NetPid;
 use packet_out::Sent;
 pub use step::send_step;
 ghost use mathlib.Core.Path.{_≡_};

@@ -6,8 +6,8 @@
 mod outgoing;
 mod sending;
 
-use handshake_out::NetPid;
 use link_state::Link;
+use opening::NetPid;
 pub use sending::relay_send;
 
 // What to send. kind is the packet's type. A Nonce has random; a Handshake sender and peer; a Ping id; an invoke number,

@@ -20,6 +20,11 @@ use Rattle.send_rules.specs.Sent.{sentOf}
 use Rattle.send_rules.specs.Control.{sendRefusal, controlAnswer, stepBy, bufferBy, controlStep, controlBuffer}
 use Rattle.send_rules.specs.declared.Step.{Step}
 
+-- a step's answer is the one that it goes by
+pub step-answer : (l : Link) (kind id : ℕ) (x : Sent) → stepBy l kind id x .answer ≡ x
+step-answer l kind id (Written n) = refl
+step-answer l kind id (Refused k) = refl
+
 by-tests : (r t u : Bool) (k len room n : ℕ) → ltb 16777199 len ≡ t → ltb room (len + 16) ≡ u
     → pick r (Refused k) (pick t (Refused 2) (pick u (Refused 16) (Written (len + 16)))) ≡ Written n → (len ≤ 16777199) × (len + 16 ≤ room)
 by-tests true t u k len room n e f h = let z : _≡_ {A = ℕ} 0 1 = cc in absurd (omega arith)

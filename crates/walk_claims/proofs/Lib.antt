@@ -2,5 +2,6 @@
 pub mod FullText
 pub mod SameEvent
 pub mod Resume
-pub mod ProgramText
 pub mod Bounds
+pub mod Ends
+pub mod ProgramText

@@ -21,6 +21,7 @@ use Rattle.walk_turn.specs.Lines.{refusedLine}
 use Rattle.walk.specs.Walk.{Outcome, walkFrom, walkOf}
 use Rattle.walk_claims.specs.ProgramText.{callsFrom, faultFrom, rendered, modelText, Fed, fedFirst, fedNext, feed, Piece, feedAll, finish, joined, over, ProgramText, ProgramTexts}
 use Rattle.walk_claims.proofs.FullText.{fullFrom, told, full-is, enough}
+use Rattle.walk_claims.proofs.Ends.{comes-to-an-end}
 use Rattle.walk_claims.proofs.Resume.{full, withRest, resume, consumed-most}
 
 -- ---- a caller's pieces
@@ -94,6 +95,7 @@ module _ (n : ℕ) (a : 1 ≤ n) (b : n ≤ 9223372036854775807) where
             ∙ feed-all-keeps (fedFirst (freshOf first .table)) ps []
             ∙ ap (full (freshOf first .table)) (append-nil (joined ps))
             ∙ full-text (joined ps);
+        ends = λ ps. comes-to-an-end (fedFirst (freshOf first .table)) ps refl;
       }
 
 pub program-texts : ProgramTexts

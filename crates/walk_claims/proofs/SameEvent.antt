@@ -60,7 +60,7 @@ module _ (es more : List ℕ) where
   body-same kind z h = kinds-same (eqb kind 1) (eqb kind 2) (eqb kind 3) (eqb kind 4) (eqb kind 5) z h
 
 -- the event at the front of some bytes, of which there is one at least
-event-at : (x : ℕ) (xs : List ℕ) → eventOf (x ∷ xs) ≡ first ((eqb (bodySize x) 0, Unknown) ∷ (leb (length (x ∷ xs)) (bodySize x), Cut) ∷ []) (bodyOf x (x ∷ xs))
+pub event-at : (x : ℕ) (xs : List ℕ) → eventOf (x ∷ xs) ≡ first ((eqb (bodySize x) 0, Unknown) ∷ (leb (length (x ∷ xs)) (bodySize x), Cut) ∷ []) (bodyOf x (x ∷ xs))
 unfolding eventOf
 event-at x xs = rw (ne-eqb (length (x ∷ xs)) 0 (λ q. omega arith))
 

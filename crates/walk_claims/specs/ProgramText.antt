@@ -7,7 +7,7 @@ use mathlib.Core.Bool.{Bool, true, false, _||_}
 use mathlib.Core.List.{List, [], _∷_, _++_}
 use lib.Dec.{eqb}
 use lib.IntN.{pos}
-use lib.ListN.{length, drop}
+use lib.ListN.{length, drop, replicate}
 use Rattle.wire.specs.Choice.{pick}
 use Rattle.inflight.specs.Model.{empty}
 use Rattle.inflight.specs.Tables.{freshOf}
@@ -119,6 +119,8 @@ pub record ProgramText (first : PublisherNumber) : Type 0 where
   -- any pieces, any room: once the walk is over, its text is the model's
   pub pieces : (ps : List Piece) (rooms : List ℕ) → over (finish (feedAll (fedFirst (freshOf first .table)) ps) rooms) ≡ true
       → finish (feedAll (fedFirst (freshOf first .table)) ps) rooms .text ≡ modelText first (joined ps)
+  -- and it is over after as many calls more as there are bytes, each with room for the lines of any event
+  pub ends : (ps : List Piece) → over (finish (feedAll (fedFirst (freshOf first .table)) ps) (replicate (length (joined ps)) 4096)) ≡ true
 
 -- for every first number from 1 to the largest
 abbrev pub ProgramTexts : Type 0

@@ -6,18 +6,24 @@ use relay::{Link, Settings};
 use std::net::SocketAddr;
 use std::time::Duration;
 
-const USAGE: &str = "usage: relay [--retry-ms N] [--ping-ms N] LISTEN PUBLISHER (eight of them)
-PUBLISHER is ADDRESS[,NAME=VALUE]...; lowest=N: the lowest version of its Nonce, 0 to 2";
+const USAGE: &str =
+    "usage: relay [--retry-ms N] [--ping-ms N] [--opening-ms N] LISTEN PUBLISHER (eight of them)
+PUBLISHER is ADDRESS[,NAME=VALUE]...; lowest=N: the lowest version of its Nonce, 0 to 2
+--retry-ms: the pause before a publisher is tried again, 1000 if not said
+--ping-ms: the interval of the keep-alive, and what a dropped peer has to read the rest, 10000
+--opening-ms: from a connection's start until its link must be open, 5000";
 
 /// Where to listen, and all else; or what is wrong.
 pub fn read(mut words: impl Iterator<Item = String>) -> Result<(SocketAddr, Options), String> {
     let mut positional = Vec::new();
     let mut retry = 1000;
     let mut keep_alive = 10_000;
+    let mut opening = 5000;
     while let Some(word) = words.next() {
         match word.as_str() {
             "--retry-ms" => retry = milliseconds(words.next())?,
             "--ping-ms" => keep_alive = milliseconds(words.next())?,
+            "--opening-ms" => opening = milliseconds(words.next())?,
             _ => positional.push(word),
         }
     }
@@ -29,6 +35,7 @@ pub fn read(mut words: impl Iterator<Item = String>) -> Result<(SocketAddr, Opti
         publishers: publishers.try_into().map_err(|_| USAGE)?,
         retry: Duration::from_millis(retry),
         keep_alive: Duration::from_millis(keep_alive),
+        opening: Duration::from_millis(opening),
     };
     Ok((listen, options))
 }
@@ -93,6 +100,24 @@ mod tests {
         let mut words = ["127.0.0.1:2"; 8];
         words[7] = word;
         line(&words).err().expect("a word that is refused")
+    }
+
+    #[test]
+    fn times_are_as_said_or_as_the_usage_names_them() {
+        let times = |words: &[&str]| {
+            let words = words.iter().chain(&["127.0.0.1:1"]);
+            let words = words
+                .chain(&["127.0.0.1:2"; 8])
+                .map(|word| word.to_string());
+            let options = read(words).map(|(_, options)| options);
+            options.map(|o| [o.retry, o.keep_alive, o.opening].map(|time| time.as_millis()))
+        };
+        assert_eq!(times(&[]), Ok([1000, 10_000, 5000]));
+        let said = ["--opening-ms", "7", "--ping-ms", "8", "--retry-ms", "9"];
+        assert_eq!(times(&said), Ok([9, 8, 7]));
+        for value in ["0", "-1", "soon", ""] {
+            assert_eq!(times(&["--opening-ms", value]), Err(USAGE.to_string()));
+        }
     }
 
     #[test]

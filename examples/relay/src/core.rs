@@ -1,7 +1,8 @@
 //! The relay itself, without sockets. One event is handled after the other,
 //! and what is to be done comes back as actions. Here: which packet is for whom.
 //! `opening` and `keep_alive` have what is a connection's own, `forward` the
-//! way of requests and answers.
+//! way of requests and answers, `unreadable` what becomes of those that cannot
+//! be read.
 
 use crate::connection::{side_towards, Connection};
 use crate::counts::Counts;
@@ -56,6 +57,9 @@ impl Core {
             Event::Connected(peer, opening) => self.connected(peer, opening),
             Event::Bytes(peer, bytes) => self.bytes(peer, bytes),
             Event::Closed(peer) => self.gone(peer),
+            Event::OpeningOver(peer) => self.opening_over(peer),
+            Event::Slow(peer) => self.slow(peer),
+            Event::TurnedAway => self.counts.turned_away += 1,
             Event::Tick => self.tick(),
         }
         std::mem::take(&mut self.actions)
@@ -95,11 +99,7 @@ impl Core {
                 return;
             };
             match connection.link.receive(&input[used..], moment) {
-                Arrival::Incomplete(_) => {
-                    input.drain(..used);
-                    connection.input = input;
-                    return;
-                }
+                Arrival::Incomplete(_) => return connection.keep(input, used),
                 Arrival::Packet {
                     kind,
                     consumed,
@@ -124,9 +124,7 @@ impl Core {
             PONG => self.counts.pongs += 1,
             _ => match read_message(side_towards(peer), kind, body) {
                 Ok(message) => self.message(peer, message),
-                // A refusal does not say whose request it was, so nobody can
-                // be answered; nor does it close the link.
-                Err(_) => self.counts.unread += 1,
+                Err(refusal) => self.unreadable(peer, kind, body, refusal),
             },
         }
     }
@@ -160,6 +158,12 @@ impl Core {
         if self.send(peer, what).is_err() {
             self.close(peer);
         }
+    }
+
+    /// It can be sent nothing more, so all that it asked or was asked ends now.
+    fn slow(&mut self, peer: Peer) {
+        self.counts.slow += 1;
+        self.close(peer);
     }
 
     /// We end a connection.

@@ -6,7 +6,7 @@ use std::fmt;
 #[derive(Clone, Default)]
 pub struct Counts {
     /// Requests that the table accepted. Each of them ends in exactly one of
-    /// the five ways below, or is still in flight.
+    /// the six ways below, or is still in flight.
     pub asked: u64,
     pub answered: u64,
     pub cancelled: u64,
@@ -16,30 +16,48 @@ pub struct Counts {
     pub lost: u64,
     /// It could not be sent to its publisher.
     pub unsent: u64,
+    /// Its answer could not be read.
+    pub unreadable: u64,
     /// Answers to nothing in flight, which go nowhere (34).
     pub late: u64,
     /// Cancels of nothing in flight (34).
     pub idle_cancels: u64,
-    /// Messages that could not be read.
+    /// Messages that could not be read, of either side.
     pub unread: u64,
-    /// Error results of our own, by code: refused asks, unsent, lost.
+    /// Requests under a number in flight on their link, which end it (31).
+    pub repeated: u64,
+    /// Error results of our own, by code: refused asks, unsent, lost, and where
+    /// a request or its answer could not be read.
     pub refused: BTreeMap<u8, u64>,
     pub pings: u64,
     pub pongs: u64,
-    /// Connections that we ended: refused packets, no sign of life, fin.
+    /// Connections that we ended, for whatever reason.
     pub dropped: u64,
     /// Those of them whose Nonce had a version below the lowest (24).
     pub too_old: u64,
+    /// Those of them that did not open in time.
+    pub unopened: u64,
+    /// Those of them whose peer did not read what waited for it.
+    pub slow: u64,
+    /// Connections that were not taken: no link was free, or no set-up.
+    pub turned_away: u64,
 }
 
 impl Counts {
     pub fn in_flight(&self) -> u64 {
-        let ended = self.answered + self.cancelled + self.closed + self.lost + self.unsent;
-        self.asked - ended
+        let ended = [
+            self.answered,
+            self.cancelled,
+            self.closed,
+            self.lost,
+            self.unsent,
+            self.unreadable,
+        ];
+        self.asked - ended.iter().sum::<u64>()
     }
 }
 
-/// Words and numbers in turn, on one line; `refused_31` and so on at the end.
+/// Words and numbers in turn, on one line; `refused_32` and so on at the end.
 impl fmt::Display for Counts {
     fn fmt(&self, f: &mut fmt::Formatter) -> fmt::Result {
         let named = [
@@ -50,13 +68,18 @@ impl fmt::Display for Counts {
             ("closed", self.closed),
             ("lost", self.lost),
             ("unsent", self.unsent),
+            ("unreadable", self.unreadable),
             ("late", self.late),
             ("idle_cancels", self.idle_cancels),
             ("unread", self.unread),
+            ("repeated", self.repeated),
             ("pings", self.pings),
             ("pongs", self.pongs),
             ("dropped", self.dropped),
             ("too_old", self.too_old),
+            ("unopened", self.unopened),
+            ("slow", self.slow),
+            ("turned_away", self.turned_away),
         ];
         write!(f, "counts")?;
         for (name, count) in named {

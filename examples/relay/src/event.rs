@@ -27,6 +27,12 @@ pub enum Event<'a> {
     Bytes(Peer, &'a [u8]),
     /// A connection is gone.
     Closed(Peer),
+    /// The time for a connection's opening is over.
+    OpeningOver(Peer),
+    /// A connection is given up: more waits for its peer than may wait.
+    Slow(Peer),
+    /// A connection was not taken: no link is free, or it could not be set up.
+    TurnedAway,
     /// One interval of the keep-alive is over.
     Tick,
 }
@@ -34,7 +40,7 @@ pub enum Event<'a> {
 #[derive(Debug, PartialEq, Eq)]
 pub enum Action {
     Send(Peer, Vec<u8>),
-    /// Everything sent before goes out, then the connection ends. No event
-    /// `Closed` need follow.
+    /// Everything sent before goes out, if the peer takes it in time, then the
+    /// connection ends. No event `Closed` need follow.
     Close(Peer),
 }

@@ -14,9 +14,8 @@ fn route(actor: Option<i64>) -> u8 {
 impl Core {
     /// A request of a front end. After its fin there may be none.
     pub(crate) fn invoke(&mut self, link: u8, invoke: Invoke) {
-        let peer = Peer::Front(link);
-        if self.connection(peer).is_some_and(|front| front.fin) {
-            return self.close(peer);
+        if self.has_finished(link) {
+            return self.close(Peer::Front(link));
         }
         let publisher = route(invoke.actor);
         let front = FrontNumber(invoke.number);
@@ -25,8 +24,22 @@ impl Core {
                 self.counts.asked += 1;
                 self.pass_on(link, publisher, number, invoke);
             }
+            Err(Refusal::IN_FLIGHT_ALREADY) => self.repeated(link),
             Err(refusal) => self.refuse(link, front, refusal),
         }
+    }
+
+    /// A second request came under a number in flight. An error under that
+    /// number would be taken for the first one's answer, and an answer might be
+    /// taken for either's, so the link ends and nothing goes out under it.
+    pub(crate) fn repeated(&mut self, link: u8) {
+        self.counts.repeated += 1;
+        self.close(Peer::Front(link));
+    }
+
+    pub(crate) fn has_finished(&mut self, link: u8) -> bool {
+        let front = self.connection(Peer::Front(link));
+        front.is_some_and(|front| front.fin)
     }
 
     /// An accepted request goes out under the publisher's number. If there is
@@ -120,14 +133,14 @@ impl Core {
         }
     }
 
-    fn cancel_at(&mut self, publisher: u8, number: PublisherNumber) {
+    pub(crate) fn cancel_at(&mut self, publisher: u8, number: PublisherNumber) {
         let cancel = Message::Cancel { number: number.0 };
         self.send_or_close(Peer::Publisher(publisher), ToSend::Message(cancel));
         self.ended(publisher);
     }
 
     /// A request at a publisher has ended.
-    fn ended(&mut self, publisher: u8) {
+    pub(crate) fn ended(&mut self, publisher: u8) {
         if let Some(connection) = self.connection(Peer::Publisher(publisher)) {
             connection.in_flight = connection.in_flight.saturating_sub(1);
         }
@@ -148,7 +161,7 @@ impl Core {
     }
 
     /// An error of our own; its code is the refusal's number.
-    fn refuse(&mut self, link: u8, front: FrontNumber, refusal: Refusal) {
+    pub(crate) fn refuse(&mut self, link: u8, front: FrontNumber, refusal: Refusal) {
         *self.counts.refused.entry(refusal.number()).or_default() += 1;
         let text = refusal.to_string();
         let error = Answer::Error {

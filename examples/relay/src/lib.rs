@@ -15,3 +15,4 @@ mod keep_alive;
 pub mod network;
 mod opening;
 pub mod settings;
+mod unreadable;

@@ -1,5 +1,7 @@
-//! The program: `relay [--retry-ms N] [--ping-ms N] LISTEN PUBLISHER ...`,
-//! with exactly eight publishers. A publisher is its address, or for instance
+//! The program: `relay [--retry-ms N] [--ping-ms N] [--opening-ms N] LISTEN
+//! PUBLISHER ...`, with exactly eight publishers. The times are between two
+//! attempts to reach a publisher, of the keep-alive, and from a connection's
+//! start until its link must be open. A publisher is its address, or for instance
 //! `10.0.0.7:2001,lowest=2`: the lowest version that its Nonce may have, 0 to 2,
 //! and 0 if not said. It prints the address on which it listens, and the counts
 //! for each line on standard input.

@@ -14,7 +14,10 @@ impl Core {
         let connection = settings.and_then(|settings| Connection::new(settings, opening).ok());
         match (connection, self.slot(peer)) {
             (Some(connection), Some(slot)) => *slot = Some(connection),
-            _ => return self.actions.push(Action::Close(peer)),
+            _ => {
+                self.counts.turned_away += 1;
+                return self.actions.push(Action::Close(peer));
+            }
         }
         if side_towards(peer) == Side::Client {
             self.send_or_close(peer, nonce(opening));
@@ -37,6 +40,15 @@ impl Core {
                 self.send_or_close(peer, handshake);
             }
             (Side::Client, _) => {}
+        }
+    }
+
+    /// Whatever came of it: a link that is not open by now is not waited for.
+    pub(crate) fn opening_over(&mut self, peer: Peer) {
+        let connection = self.connection(peer);
+        if connection.is_some_and(|connection| !connection.link.is_open()) {
+            self.counts.unopened += 1;
+            self.close(peer);
         }
     }
 }

@@ -4,10 +4,11 @@
 use crate::compare::{same, Compared, Difference};
 use crate::counts::Counts;
 use crate::messages;
+use crate::netpids::{self, netpid};
 use reference::link::{packet, Link, Outgoing, Received, Settings, State};
 use reference::message::{Message, Outcome, Side, Span};
 use relay::raw;
-use relay::{clock_difference, Arrival, Moment, NetPid, ToSend};
+use relay::{clock_difference, Arrival, Moment, ToSend};
 
 #[derive(Clone)]
 pub struct End {
@@ -80,11 +81,16 @@ impl End {
                 consumed,
                 body,
                 ..
-            }) => Taken::Packet(Packet {
-                packet_type,
-                consumed,
-                body,
-            }),
+            }) => {
+                if packet_type == packet::HANDSHAKE {
+                    netpids::compare(body.of(bytes))?;
+                }
+                Taken::Packet(Packet {
+                    packet_type,
+                    consumed,
+                    body,
+                })
+            }
             Err(_) => Taken::Refused,
         })
     }
@@ -198,16 +204,6 @@ fn kind(what: &Outgoing) -> &'static str {
         Outgoing::Ping(_) => "Ping",
         Outgoing::Pong => "Pong",
         Outgoing::Message(message) => messages::kind(message),
-    }
-}
-
-fn netpid(bytes: [u8; 12]) -> NetPid {
-    let [a, b, c, d, e, f, g, h, i, j, k, l] = bytes;
-    NetPid {
-        ip: u32::from_le_bytes([a, b, c, d]),
-        port: u16::from_le_bytes([e, f]),
-        pid: u16::from_le_bytes([g, h]),
-        start: u32::from_le_bytes([i, j, k, l]),
     }
 }
 

@@ -14,6 +14,7 @@ mod conversations;
 mod counts;
 mod draw;
 mod messages;
+mod netpids;
 mod options;
 mod packets;
 mod sends;
@@ -82,7 +83,8 @@ fn one(seed: u64, case: u64, counts: &mut Counts) -> Compared {
     let g = &mut generator;
     match g.below(100) {
         0..2 => checksums::case(g, counts),
-        2..4 => clocks::case(g, counts),
+        2 => clocks::case(g, counts),
+        3 => netpids::case(g, counts),
         4..6 => set_ups::case(g, counts),
         6..35 => messages::case(g, counts),
         35..70 => conversations::case(g, counts),

@@ -1,7 +1,7 @@
 //! The functions of the archive.
 
 use super::structs::*;
-use crate::{FrontNumber, PublisherNumber};
+use crate::{FrontNumber, NetPids, PublisherNumber};
 
 extern "C" {
     pub fn relay_crc32(s: *const u8, n: usize) -> u32;
@@ -15,6 +15,7 @@ extern "C" {
     pub fn relay_receive(link: *mut Link, bytes: *const u8, n: usize, moment: Moment) -> Arrival;
     pub fn relay_body(bytes: *const u8, n: usize, arrival: Arrival) -> Part;
     pub fn relay_clock_difference(body: *const u8, n: usize, moment: Moment) -> Clock;
+    pub fn relay_read_netpids(body: *const u8, n: usize) -> NetPids;
 
     pub fn relay_send(
         link: *mut Link,

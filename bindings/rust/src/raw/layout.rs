@@ -2,7 +2,7 @@
 //! against numbers; here the Rust side is held against the same lines.
 
 use super::structs::*;
-use crate::{packet_type as t, FrontNumber, NetPid, PublisherNumber, Refusal};
+use crate::{packet_type as t, FrontNumber, NetPid, NetPids, PublisherNumber, Refusal};
 use std::mem::{offset_of, size_of};
 use std::path::Path;
 use std::process::Command;
@@ -93,6 +93,7 @@ fn structs() -> Vec<String> {
                 start
             }
         ),
+        lines!(relay_netpids, NetPids { sender, peer }),
         lines!(
             relay_outgoing,
             Outgoing {

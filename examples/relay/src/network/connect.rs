@@ -1,11 +1,13 @@
 //! How connections come about: front ends connect to us, and a thread for each
 //! publisher connects to it, again and again.
 
-use super::{stream, Input};
+use super::stream::{self, Owner};
+use super::Input;
 use crate::event::Peer;
 use std::io;
 use std::net::{SocketAddr, TcpListener, TcpStream};
 use std::sync::mpsc::SyncSender;
+use std::sync::Arc;
 use std::thread;
 use std::time::Duration;
 
@@ -36,22 +38,28 @@ pub fn keep_connected(
     inputs: &SyncSender<Input>,
 ) {
     for serial in 0.. {
-        if let Ok((reader, writer)) = connect(address) {
-            let connected = Input::Connected(publisher, serial, writer);
+        if let Ok(stream) = connect(address) {
+            let stream = Arc::new(stream);
+            let connected = Input::Connected(publisher, serial, Arc::clone(&stream));
             if inputs.send(connected).is_err() {
                 return;
             }
-            stream::read(reader, Peer::Publisher(publisher), serial, inputs);
+            let owner = Owner {
+                peer: Peer::Publisher(publisher),
+                serial,
+                inputs: inputs.clone(),
+            };
+            stream::read(&stream, &owner);
         }
         thread::sleep(retry);
     }
 }
 
-fn connect(address: SocketAddr) -> io::Result<(TcpStream, TcpStream)> {
+fn connect(address: SocketAddr) -> io::Result<TcpStream> {
     let stream = TcpStream::connect_timeout(&address, CONNECT_TIMEOUT)?;
     // On one machine, with nobody listening, a socket can meet itself.
     if stream.local_addr()? == stream.peer_addr()? {
         return Err(io::ErrorKind::ConnectionRefused.into());
     }
-    Ok((stream.try_clone()?, stream))
+    Ok(stream)
 }

@@ -14,12 +14,20 @@ use std::{io, thread};
 const CHUNK: usize = 65_536;
 const WRITE_TIMEOUT: Duration = Duration::from_secs(10);
 
-/// A peer that has not read so many bytes of what it was sent is given up:
-/// room for four of the longest packets.
-const MOST_QUEUED: usize = 4 * 16_777_216;
+/// The most bytes that may wait for a peer: two of the longest packets.
+const MOST_QUEUED: usize = 2 * 16_777_215;
+
+/// Who reads or writes, and whom it tells.
+#[derive(Clone)]
+pub struct Owner {
+    pub peer: Peer,
+    pub serial: u64,
+    pub inputs: SyncSender<Input>,
+}
 
 /// Reads until the connection ends.
-pub fn read(mut stream: TcpStream, peer: Peer, serial: u64, inputs: &SyncSender<Input>) {
+pub fn read(mut stream: &TcpStream, owner: &Owner) {
+    let (peer, serial) = (owner.peer, owner.serial);
     let mut chunk = vec![0; CHUNK];
     loop {
         let read = stream.read(&mut chunk);
@@ -29,54 +37,75 @@ pub fn read(mut stream: TcpStream, peer: Peer, serial: u64, inputs: &SyncSender<
             Err(error) if error.kind() == ErrorKind::Interrupted => continue,
             Err(_) => break,
         };
-        if inputs.send(Input::Bytes(peer, serial, bytes)).is_err() {
+        if owner
+            .inputs
+            .send(Input::Bytes(peer, serial, bytes))
+            .is_err()
+        {
             return;
         }
     }
     // Fails only if the core's thread has ended.
-    let _ = inputs.send(Input::Closed(peer, serial));
+    let _ = owner.inputs.send(Input::Closed(peer, serial));
 }
 
-/// The writing end of a connection. Once it is dropped, what is queued is
-/// still written, and then the connection is shut down.
-pub struct Writer {
-    stream: TcpStream,
-    queue: Sender<Vec<u8>>,
+pub fn spawn_reader(stream: &Arc<TcpStream>, owner: Owner) -> io::Result<()> {
+    let stream = Arc::clone(stream);
+    let reader = thread::Builder::new();
+    reader.spawn(move || read(&stream, &owner))?;
+    Ok(())
+}
+
+/// The packets that wait for a peer. Once it is dropped, they are still
+/// written, and then the connection is shut down.
+pub struct Queue {
+    packets: Sender<Vec<u8>>,
+    /// The bytes of all packets that are not wholly written.
     queued: Arc<AtomicUsize>,
 }
 
-impl Writer {
-    pub fn new(stream: &TcpStream) -> io::Result<Writer> {
-        stream.set_nodelay(true)?;
-        stream.set_write_timeout(Some(WRITE_TIMEOUT))?;
-        let (stream, out) = (stream.try_clone()?, stream.try_clone()?);
-        let (queue, packets) = channel();
-        let queued = Arc::new(AtomicUsize::new(0));
-        let written = Arc::clone(&queued);
-        thread::spawn(move || write(out, packets, &written));
-        Ok(Writer {
-            stream,
-            queue,
-            queued,
-        })
+impl Queue {
+    pub fn is_empty(&self) -> bool {
+        self.queued.load(Ordering::Relaxed) == 0
     }
 
-    /// If it cannot be written, the connection ends, as its reader will tell.
+    pub fn has_room(&self, length: usize) -> bool {
+        self.queued.load(Ordering::Relaxed) + length <= MOST_QUEUED
+    }
+
+    /// If it cannot be written, the connection ends, as its writer tells.
     pub fn send(&self, packet: Vec<u8>) {
-        let before = self.queued.fetch_add(packet.len(), Ordering::Relaxed);
-        if before > MOST_QUEUED || self.queue.send(packet).is_err() {
-            let _ = self.stream.shutdown(Shutdown::Both);
-        }
+        self.queued.fetch_add(packet.len(), Ordering::Relaxed);
+        let _ = self.packets.send(packet);
     }
 }
 
-fn write(mut stream: TcpStream, packets: Receiver<Vec<u8>>, queued: &AtomicUsize) {
+pub fn spawn_writer(stream: &Arc<TcpStream>, owner: Owner) -> io::Result<Queue> {
+    stream.set_nodelay(true)?;
+    stream.set_write_timeout(Some(WRITE_TIMEOUT))?;
+    let stream = Arc::clone(stream);
+    let (sender, packets) = channel();
+    let queued = Arc::new(AtomicUsize::new(0));
+    let written = Arc::clone(&queued);
+    let writer = thread::Builder::new();
+    writer.spawn(move || {
+        write(&stream, packets, &written);
+        // Told first: a peer that sees the end finds its link free.
+        let _ = owner.inputs.send(Input::Written(owner.peer, owner.serial));
+        // Of a connection that has ended already, this is refused.
+        let _ = stream.shutdown(Shutdown::Both);
+    })?;
+    Ok(Queue {
+        packets: sender,
+        queued,
+    })
+}
+
+fn write(mut stream: &TcpStream, packets: Receiver<Vec<u8>>, queued: &AtomicUsize) {
     for packet in packets {
         if stream.write_all(&packet).is_err() {
-            break;
+            return;
         }
         queued.fetch_sub(packet.len(), Ordering::Relaxed);
     }
-    // Of a connection that has ended already, this is refused.
-    let _ = stream.shutdown(Shutdown::Both);
 }

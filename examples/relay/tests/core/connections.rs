@@ -1,24 +1,10 @@
 //! What ends a connection, and what does not.
 
+use crate::other_end::OtherEnd;
 use crate::world::{self, World};
 use crate::{answer, answered, ask, code};
-use reference::message::{values, Message};
+use reference::message::{Message, Side};
 use relay_example::event::{Event, Peer};
-
-#[test]
-fn what_cannot_be_read_is_passed_over() {
-    let mut world = World::new();
-    // Query number 0, a cut invoke, a header twice, no message at all.
-    world.front_says_raw(0, values::INVOKE, &[0; 8]);
-    world.front_says_raw(0, values::INVOKE, &[1; 7]);
-    let twice = [[1; 8], [0xbd, 0xaa, 0x68, 0x75, 5, 0, 0, 0]].concat();
-    world.front_says_raw(0, values::INVOKE, &twice);
-    world.front_says_raw(0, 0x1234_5678, b"no message");
-    assert_eq!(world.core.counts().unread, 4);
-    assert_eq!(world.closed, []);
-    world.front_says(0, ask(1, 0));
-    assert_eq!(world.publisher_got(0).len(), 1);
-}
 
 #[test]
 fn a_broken_packet_ends_the_connection() {
@@ -83,13 +69,77 @@ fn a_front_end_asks_nothing_after_its_fin() {
     assert_eq!(world.publisher_got(2).len(), 1);
 }
 
+/// A new connection whose opening comes to no end.
+fn half_open(world: &mut World, peer: Peer) {
+    let side = match peer {
+        Peer::Front(_) => Side::Client,
+        Peer::Publisher(_) => Side::Server,
+    };
+    world.tell(Event::Closed(peer));
+    world.silent = Some(peer);
+    assert!(!world.opens(peer, OtherEnd::new(side, true)));
+}
+
 #[test]
-fn an_opening_must_end() {
+fn an_opening_must_end_in_its_time() {
     let mut world = World::new();
-    world.tell(Event::Closed(Peer::Front(3)));
-    world.tell(Event::Connected(Peer::Front(3), world::OPENING));
-    world.tell(Event::Tick);
+    for peer in [Peer::Front(3), Peer::Publisher(3)] {
+        half_open(&mut world, peer);
+        world.closed.clear();
+        // The keep-alive is not its judge.
+        for _ in 0..3 {
+            world.tell(Event::Tick);
+        }
+        assert_eq!(world.closed, []);
+        world.tell(Event::OpeningOver(peer));
+        assert_eq!(world.closed, [peer]);
+        // It is gone already.
+        world.tell(Event::OpeningOver(peer));
+        assert_eq!(world.closed, [peer]);
+        world.silent = None;
+        world.connect(peer);
+    }
+    let counts = world.core.counts();
+    assert_eq!((counts.unopened, counts.dropped), (2, 2));
+}
+
+#[test]
+fn an_open_link_outlives_the_time_for_its_opening() {
+    let mut world = World::new();
+    for peer in [Peer::Front(3), Peer::Publisher(3)] {
+        world.tell(Event::OpeningOver(peer));
+    }
     assert_eq!(world.closed, []);
-    world.tell(Event::Tick);
-    assert_eq!(world.closed, [Peer::Front(3)]);
+    world.front_says(3, ask(1, 3));
+    world.publisher_says(3, answer(1, b"an answer"));
+    assert_eq!(world.front_got(3), [answered(1, b"an answer")]);
+    assert_eq!(world.core.counts().unopened, 0);
+}
+
+#[test]
+fn a_connection_that_is_given_up_ends_its_requests() {
+    let mut world = World::new();
+    world.front_says(0, ask(1, 2));
+    world.front_says(1, ask(1, 2));
+    world.publisher_got(2);
+    world.tell(Event::Slow(Peer::Front(0)));
+    assert_eq!(world.closed, [Peer::Front(0)]);
+    assert_eq!(world.publisher_got(2), [Message::Cancel(1)]);
+    world.tell(Event::Slow(Peer::Publisher(2)));
+    assert_eq!(world.closed, [Peer::Front(0), Peer::Publisher(2)]);
+    assert_eq!(code(&world.front_got(1)[0], 1), 20);
+    let counts = world.core.counts();
+    assert_eq!((counts.slow, counts.dropped), (2, 2));
+    assert_eq!((counts.closed, counts.lost, counts.in_flight()), (1, 1, 0));
+}
+
+#[test]
+fn connections_that_are_not_taken_are_counted() {
+    let mut world = World::new();
+    world.tell(Event::TurnedAway);
+    // There is no such link.
+    world.tell(Event::Connected(Peer::Front(32), world::OPENING));
+    assert_eq!(world.closed, [Peer::Front(32)]);
+    let counts = world.core.counts();
+    assert_eq!((counts.turned_away, counts.dropped), (2, 0));
 }

@@ -3,7 +3,11 @@
 mod connections;
 #[path = "../other_end/mod.rs"]
 mod other_end;
+mod repeated;
 mod requests;
+#[path = "../unreadable/mod.rs"]
+mod unreadable;
+mod unreadable_messages;
 mod versions;
 mod world;
 

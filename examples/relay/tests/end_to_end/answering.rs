@@ -1,4 +1,5 @@
-//! How a publisher answers: in any order, some twice, some too late.
+//! How a publisher answers: in any order, some twice, some too late, some so
+//! that it cannot be read.
 
 use crate::publisher::{Life, Open, Publisher};
 use crate::request::Request;
@@ -25,7 +26,7 @@ impl Publisher {
         }
     }
 
-    /// An answer, or an error in one of its forms.
+    /// An answer, or an error in one of its forms, or what cannot be read.
     pub fn answer(&mut self, life: &mut Life, number: i64, payload: &[u8]) {
         let end = &mut life.socket.end;
         let code = Request::error_code(self.publisher);
@@ -39,6 +40,11 @@ impl Publisher {
                 body.extend(payload);
                 body.resize(body.len().next_multiple_of(4), 0);
                 end.send_raw(values::OLD_ERROR, &body);
+            }
+            2 => {
+                let form = Request::unreadable(payload);
+                end.send_raw(form.packet_type, &form.body(number));
+                self.tally.add("answers unreadable", 1);
             }
             _ => {
                 let answer = Request::answer(self.publisher, payload);

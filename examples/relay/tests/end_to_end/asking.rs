@@ -3,6 +3,7 @@
 use crate::claims::Claim;
 use crate::front::{Front, Life};
 use crate::request::Request;
+use crate::unreadable::REQUESTS;
 use reference::link::Outgoing;
 use reference::message::{values, Message};
 use std::time::Instant;
@@ -18,7 +19,11 @@ impl Front {
                 .copied(),
         };
         match (self.generator.below(100), chosen) {
-            (0..=1, Some(number)) if self.next_serial < until => self.ask(life, number),
+            (0, _) if self.next_serial < until => {
+                if let Some(number) = self.free_number(life) {
+                    self.ask_unreadable(life, number);
+                }
+            }
             (2..=5, Some(number)) => self.cancel(life, number),
             (6..=8, _) => self.ping(life),
             (9, _) => self.nonsense(life),
@@ -48,7 +53,35 @@ impl Front {
         life.claims.is_free(number).then_some(number)
     }
 
-    fn ask(&mut self, life: &mut Life, number: i64) {
+    pub fn ask(&mut self, life: &mut Life, number: i64) {
+        let request = self.request(number);
+        let payload = request.payload();
+        life.socket.end.send_message(request.message(&payload));
+        self.claim(life, request, payload, None);
+    }
+
+    /// A request that the relay cannot read, and answers itself.
+    pub fn ask_unreadable(&mut self, life: &mut Life, number: i64) {
+        let form = self.generator.pick(&REQUESTS);
+        let body = form.body(number);
+        life.socket.end.send_raw(form.packet_type, &body);
+        let request = self.request(number);
+        self.claim(life, request, body, Some(form.refusal));
+    }
+
+    fn claim(&mut self, life: &mut Life, request: Request, payload: Vec<u8>, refusal: Option<i32>) {
+        self.tally.add("asked", 1);
+        life.claims.insert(Claim {
+            request,
+            payload,
+            since: Instant::now(),
+            refusal,
+            cancelled: false,
+        });
+    }
+
+    /// The next request.
+    fn request(&mut self, number: i64) -> Request {
         let generator = &mut self.generator;
         let publisher = match generator.below(3) {
             0 => generator.below(2) as i64,
@@ -56,26 +89,18 @@ impl Front {
         };
         let actor = 8 * (generator.below(1000) as i64 - 500) + publisher;
         let longest = generator.pick(&[20, 20, 20, 20, 300, 300, 4000, 40_000]);
-        let request = Request {
+        let serial = self.next_serial;
+        self.next_serial += 1;
+        Request {
             front: self.front,
             life: self.life,
             number,
-            serial: self.next_serial,
+            serial,
             actor: (generator.below(8) > 0).then_some(actor),
             timeout: (generator.below(3) == 0).then(|| generator.below(5000) as u32),
             tl2: generator.below(4) == 0,
             filler: generator.below(longest) as u32,
-        };
-        self.next_serial += 1;
-        self.tally.add("asked", 1);
-        let payload = request.payload();
-        life.socket.end.send_message(request.message(&payload));
-        life.claims.insert(Claim {
-            request,
-            payload,
-            since: Instant::now(),
-            cancelled: false,
-        });
+        }
     }
 
     pub fn cancel(&mut self, life: &mut Life, number: i64) {
@@ -95,15 +120,14 @@ impl Front {
         }
     }
 
-    /// Messages that cannot be read, which do not close the link: number 0, a
-    /// cut one, an actor twice, a type that is no message's.
+    /// Messages that cannot be read and name no request, which are passed over:
+    /// number 0, a cut number, too long a cancel, a type that is no message's.
     fn nonsense(&mut self, life: &mut Life) {
         let end = &mut life.socket.end;
-        let actor = [&values::DEST_ACTOR.to_le_bytes()[..], &[0; 8]].concat();
         match self.generator.below(4) {
             0 => end.send_raw(values::INVOKE, &[0; 12]),
             1 => end.send_raw(values::INVOKE, &[1; 5]),
-            2 => end.send_raw(values::INVOKE, &[&[1; 8], &actor[..], &actor].concat()),
+            2 => end.send_raw(values::CANCEL, &[1; 9]),
             _ => end.send_raw(0x0102_0304, b"nothing known"),
         }
         self.tally.add("nonsense", 1);

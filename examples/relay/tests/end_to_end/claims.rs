@@ -10,13 +10,15 @@ pub struct Claim {
     pub request: Request,
     pub payload: Vec<u8>,
     pub since: Instant,
+    /// The request cannot be read: only an error with this code may come.
+    pub refusal: Option<i32>,
     /// A cancel was sent; its end is told by the Pong to a later Ping.
     pub cancelled: bool,
 }
 
 /// Under a number there is one claim, or two if it was asked for again on
-/// purpose: the relay then refuses the second with 31 while the first is in
-/// flight, or ends both, the first one first.
+/// purpose: then the relay ends the link, with nothing more under that number,
+/// or it had answered the first before it saw the second, and answers that too.
 #[derive(Default)]
 pub struct Claims(BTreeMap<i64, VecDeque<Claim>>);
 
@@ -32,6 +34,10 @@ impl Claims {
 
     pub fn count(&self) -> usize {
         self.0.values().map(VecDeque::len).sum()
+    }
+
+    pub fn has_two(&self, number: i64) -> bool {
+        self.0.get(&number).is_some_and(|claims| claims.len() == 2)
     }
 
     /// The numbers with one claim that is not cancelled.
@@ -59,27 +65,10 @@ impl Claims {
         let Some(first) = claims.front() else {
             return wrong("no claim");
         };
-        let publisher = first.request.publisher();
-        let alone = claims.len() == 1;
-        let name = match outcome {
-            Outcome::Payload(payload) if *payload == Request::answer(publisher, &first.payload) => {
-                "answers"
-            }
-            Outcome::Error(code, text)
-                if *code == Request::error_code(publisher) && *text == first.payload =>
-            {
-                "publisher errors"
-            }
-            Outcome::Error(20, _) => "refused 20",
-            Outcome::Error(31, _) if !alone => "refused 31",
-            Outcome::Error(32, _) => "refused 32",
-            Outcome::Error(33, _) => "refused 33",
-            _ => return wrong("a result of something else"),
+        let Some(name) = name(first, outcome) else {
+            return wrong("a result of something else");
         };
-        let claim = match name {
-            "refused 31" => claims.pop_back(),
-            _ => claims.pop_front(),
-        };
+        let claim = claims.pop_front();
         if claims.is_empty() {
             self.0.remove(&number);
         }
@@ -95,6 +84,29 @@ impl Claims {
             self.0.remove(&number);
         }
         gone
+    }
+}
+
+/// The way in which a request ends with this outcome; none if it cannot.
+fn name(claim: &Claim, outcome: &Outcome<Vec<u8>>) -> Option<&'static str> {
+    let publisher = claim.request.publisher();
+    match (claim.refusal, outcome) {
+        (Some(refusal), Outcome::Error(code, _)) if *code == refusal => Some("unreadable requests"),
+        (Some(_), _) => None,
+        (None, Outcome::Payload(payload)) => {
+            let is_its_own = *payload == Request::answer(publisher, &claim.payload);
+            is_its_own.then_some("answers")
+        }
+        (None, Outcome::Error(code, text)) => match code {
+            20 => Some("refused 20"),
+            32 => Some("refused 32"),
+            33 => Some("refused 33"),
+            _ if *code == Request::unreadable(&claim.payload).refusal => Some("unreadable answers"),
+            _ => {
+                let is_its_own = *code == Request::error_code(publisher) && *text == claim.payload;
+                is_its_own.then_some("publisher errors")
+            }
+        },
     }
 }
 

@@ -23,9 +23,18 @@ enum Ending {
     Dropped,
     /// By a packet that the relay must refuse; the relay ends it.
     Broken,
+    /// By a request under a number in flight; the relay ends it.
+    Repeated,
     /// After a fin and the last answer.
     Finished,
 }
+
+const ENDINGS: [Ending; 4] = [
+    Ending::Dropped,
+    Ending::Broken,
+    Ending::Repeated,
+    Ending::Finished,
+];
 
 pub struct Front {
     pub front: u8,
@@ -74,11 +83,11 @@ impl Front {
                 }
                 self.step(&mut life, deadline)?;
             }
-            let endings = [Ending::Dropped, Ending::Broken, Ending::Finished];
-            match self.generator.pick(&endings) {
+            match self.generator.pick(&ENDINGS) {
                 _ if until == REQUESTS => self.finish(life, deadline)?,
                 Ending::Dropped => self.drop(life),
                 Ending::Broken => self.break_off(life, deadline)?,
+                Ending::Repeated => self.repeat(life, deadline)?,
                 Ending::Finished => self.finish(life, deadline)?,
             }
         }
@@ -110,8 +119,18 @@ impl Front {
         Err("no connection in time".to_string())
     }
 
-    /// Writes what is to go out and takes in what came.
+    /// Writes what is to go out and takes in what came. The relay must not end
+    /// the connection.
     fn step(&mut self, life: &mut Life, deadline: Instant) -> Result<(), String> {
+        self.turn(life, deadline)?;
+        if life.socket.ended {
+            return Err("the relay ended the connection".to_string());
+        }
+        Ok(())
+    }
+
+    /// The same, where the relay may end it.
+    fn turn(&mut self, life: &mut Life, deadline: Instant) -> Result<(), String> {
         for number in life.claims.single() {
             let is_old = |claim: &mut Claim| claim.since.elapsed() > PATIENCE;
             if life.claims.get(number).is_some_and(is_old) {
@@ -125,9 +144,6 @@ impl Front {
         life.socket.flush(&mut self.generator);
         for got in life.socket.pump()? {
             self.got(life, got)?;
-        }
-        if life.socket.ended {
-            return Err("the relay ended the connection".to_string());
         }
         if Instant::now() > deadline {
             return Err(format!("not done in time, {} open", life.claims.count()));
@@ -197,6 +213,29 @@ impl Front {
         }
         self.close(life, "link broken");
         Ok(())
+    }
+
+    /// A second request under a number in flight, one that can be read or not.
+    /// The relay ends the connection, and nothing comes under that number; or
+    /// the first was answered before the relay saw the second, and all goes on.
+    fn repeat(&mut self, mut life: Life, deadline: Instant) -> Result<(), String> {
+        let Some(&number) = life.claims.single().first() else {
+            self.drop(life);
+            return Ok(());
+        };
+        match self.generator.below(3) {
+            0 => self.ask_unreadable(&mut life, number),
+            _ => self.ask(&mut life, number),
+        }
+        while life.claims.has_two(number) && !life.socket.ended {
+            self.turn(&mut life, deadline)?;
+        }
+        if life.claims.has_two(number) {
+            self.close(life, "link repeated");
+            return Ok(());
+        }
+        self.tally.add("answered before repeated", 1);
+        self.finish(life, deadline)
     }
 
     /// No more requests; the last answers are waited for.

@@ -1,20 +1,29 @@
 //! End to end, over loopback: the relay's program, 32 front ends and eight
 //! publishers that the second program plays. Answers come in any order, late,
-//! twice or never; requests are cancelled; connections break on both sides;
-//! packets are cut anywhere. Each front end checks each answer.
+//! twice, unreadable or never; requests are cancelled; connections break on both
+//! sides; packets are cut anywhere. Each front end checks each answer.
+//!
+//! Beside that run, with its own relay each, what happens step by step: to old
+//! publishers, to what cannot be read, to slow readers and to slow openings.
 
 mod answering;
 mod asking;
 mod claims;
 mod front;
 mod old_publisher;
+mod openings;
 #[path = "../other_end/mod.rs"]
 mod other_end;
 mod process;
 mod publisher;
 mod request;
+mod slow_readers;
 mod socket;
+mod steps;
 mod tally;
+#[path = "../unreadable/mod.rs"]
+mod unreadable;
+mod unreadable_messages;
 
 use process::RelayProcess;
 use publisher::Publisher;
@@ -34,8 +43,6 @@ const PUBLISHERS: u8 = 8;
 const LOWEST: [u8; PUBLISHERS as usize] = [0, 1, 2, 2, 0, 1, 2, 2];
 /// Everybody gives up then, with what was still open.
 const PATIENCE: Duration = Duration::from_secs(40);
-/// If even that hangs, the process ends.
-const HARD_LIMIT: Duration = Duration::from_secs(55);
 
 #[test]
 fn every_answer_finds_its_request() {
@@ -46,7 +53,7 @@ fn every_answer_finds_its_request() {
         .collect();
     let addresses = publishers.iter().map(Publisher::address);
     let words = addresses.zip(LOWEST).map(word).collect::<Vec<_>>();
-    let relay = RelayProcess::start(&words, HARD_LIMIT);
+    let relay = RelayProcess::start("--retry-ms 50 --ping-ms 2000", &words);
 
     let done = Arc::new(AtomicBool::new(false));
     let publishers: Vec<_> = publishers
@@ -70,11 +77,12 @@ fn every_answer_finds_its_request() {
     for thread in publishers {
         tally.join(thread, &mut faults);
     }
-    let counts = relay.counts_when_quiet(Duration::from_secs(5));
+    let counts = relay.counts_when_quiet();
     println!("front ends and publishers:\n{tally}");
     println!("the relay:\n{counts}");
     assert!(faults.is_empty(), "{}", faults.join("\n"));
     check(&tally, &counts);
+    check_all_happened(&tally, &counts);
 }
 
 /// A publisher on the relay's command line.
@@ -82,24 +90,35 @@ fn word((address, lowest): (SocketAddr, u8)) -> String {
     format!("{address},lowest={lowest}")
 }
 
-/// Every request ended, and each thing that the test is for did happen.
+/// How a request of a front end ends.
+const ENDS: [&str; 9] = [
+    "answers",
+    "publisher errors",
+    "unreadable requests",
+    "unreadable answers",
+    "refused 20",
+    "refused 32",
+    "refused 33",
+    "cancelled",
+    "closed with link",
+];
+
+/// Every request ended, and nothing came from nowhere.
 fn check(tally: &Tally, counts: &Tally) {
-    let ends = [
-        "answers",
-        "publisher errors",
-        "refused 20",
-        "refused 31",
-        "refused 32",
-    ];
-    let ends = ends
-        .iter()
-        .chain(&["refused 33", "cancelled", "closed with link"]);
-    let ended: u64 = ends.map(|name| tally.get(name)).sum();
+    let ends = ENDS.iter().map(|name| tally.get(name));
+    let ended: u64 = ends.sum();
     assert_eq!(tally.get("asked"), ended, "requests that ended");
     assert_eq!(counts.get("in_flight"), 0, "requests left in the table");
     // What was under way when a connection broke came from nowhere else.
     let answered = tally.get("answers") + tally.get("publisher errors");
     assert!(answered <= counts.get("answered"), "answers out of nothing");
+    let unreadable = tally.get("unreadable answers");
+    assert!(
+        unreadable <= counts.get("unreadable"),
+        "errors out of nothing"
+    );
+    assert_eq!(tally.get("link repeated"), counts.get("repeated"));
+    assert_eq!(tally.get("turned away"), counts.get("turned_away"));
     // A cancel that found nothing in flight followed an answer.
     assert!(
         tally.get("cancelled") <= counts.get("cancelled"),
@@ -110,18 +129,15 @@ fn check(tally: &Tally, counts: &Tally) {
         tally.get("asked of publishers") <= sent,
         "requests out of nothing"
     );
-    for name in [
-        "answers",
-        "publisher errors",
-        "refused 20",
-        "refused 31",
-        "refused 32",
-        "refused 33",
-        "cancelled",
+}
+
+/// Each thing that the test is for did happen.
+fn check_all_happened(tally: &Tally, counts: &Tally) {
+    let others = [
         "answered despite cancel",
-        "closed with link",
         "link dropped",
         "link broken",
+        "link repeated",
         "link finished",
         "pongs to front ends",
         "pongs to publishers",
@@ -132,8 +148,10 @@ fn check(tally: &Tally, counts: &Tally) {
         "answers after cancel",
         "answers twice",
         "answers from before",
+        "answers unreadable",
         "cut writes",
-    ] {
+    ];
+    for name in ENDS.iter().chain(&others) {
         assert!(tally.get(name) > 0, "no {name}");
     }
     for name in [
@@ -142,6 +160,7 @@ fn check(tally: &Tally, counts: &Tally) {
         "closed",
         "cancelled",
         "unsent",
+        "unreadable",
         "unread",
         "idle_cancels",
     ] {

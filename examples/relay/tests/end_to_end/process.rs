@@ -1,12 +1,23 @@
 //! The relay's program as a process of its own, ended with the test.
 
 use crate::tally::Tally;
+use std::fs;
 use std::io::{BufRead, BufReader, Write};
 use std::net::SocketAddr;
 use std::process::{Child, ChildStdin, ChildStdout, Command, Stdio};
 use std::sync::{Arc, Mutex};
 use std::thread;
 use std::time::{Duration, Instant};
+
+/// If even the tests' own deadlines hang, the process ends then.
+const HARD_LIMIT: Duration = Duration::from_secs(55);
+
+/// What a process takes of the machine.
+#[derive(Clone, Copy, Debug)]
+pub struct Size {
+    pub threads: u64,
+    pub memory: u64,
+}
 
 pub struct RelayProcess {
     child: Arc<Mutex<Child>>,
@@ -15,11 +26,12 @@ pub struct RelayProcess {
 }
 
 impl RelayProcess {
-    /// With eight words for the publishers. It, and this process, end after
-    /// `limit` if the test still runs then.
-    pub fn start(publishers: &[String], limit: Duration) -> RelayProcess {
+    /// With these options, and eight words for the publishers. It, and this
+    /// process, end after the hard limit if the test still runs then.
+    pub fn start(options: &str, publishers: &[String]) -> RelayProcess {
         let mut child = Command::new(env!("CARGO_BIN_EXE_relay"))
-            .args(["--retry-ms", "50", "--ping-ms", "2000", "127.0.0.1:0"])
+            .args(options.split_whitespace())
+            .arg("127.0.0.1:0")
             .args(publishers)
             .stdin(Stdio::piped())
             .stdout(Stdio::piped())
@@ -28,7 +40,7 @@ impl RelayProcess {
         let stdin = child.stdin.take().expect("its input");
         let mut stdout = BufReader::new(child.stdout.take().expect("its output"));
         let child = Arc::new(Mutex::new(child));
-        end_after(limit, &child);
+        end_after(HARD_LIMIT, &child);
         let line = line(&mut stdout);
         let address = line.strip_prefix("listening on ").expect("its address");
         RelayProcess {
@@ -42,19 +54,39 @@ impl RelayProcess {
         self.address
     }
 
-    /// The counts, once nothing is in flight or the time is over.
-    pub fn counts_when_quiet(&self, patience: Duration) -> Tally {
+    /// The counts, once they are as wanted or the time is over.
+    pub fn counts_when(&self, is_wanted: impl Fn(&Tally) -> bool, patience: Duration) -> Tally {
         let deadline = Instant::now() + patience;
         loop {
             let counts = self.counts();
-            if counts.get("in_flight") == 0 || Instant::now() > deadline {
+            if is_wanted(&counts) || Instant::now() > deadline {
                 return counts;
             }
             thread::sleep(Duration::from_millis(20));
         }
     }
 
-    fn counts(&self) -> Tally {
+    pub fn counts_when_quiet(&self) -> Tally {
+        let is_quiet = |counts: &Tally| counts.get("in_flight") == 0;
+        self.counts_when(is_quiet, Duration::from_secs(5))
+    }
+
+    /// How many threads it has now, and how much memory, in MB.
+    pub fn size(&self) -> Size {
+        let pid = self.child.lock().expect("the child").id();
+        let status = fs::read_to_string(format!("/proc/{pid}/status")).expect("its status");
+        let number = |name: &str| {
+            let line = status.lines().find_map(|line| line.strip_prefix(name));
+            let number = line.and_then(|line| line.split_whitespace().next());
+            number.expect("a line").parse::<u64>().expect("a number")
+        };
+        Size {
+            threads: number("Threads:"),
+            memory: number("VmRSS:") / 1024,
+        }
+    }
+
+    pub fn counts(&self) -> Tally {
         let mut pipes = self.pipes.lock().expect("the pipes");
         writeln!(pipes.0).expect("the relay lives");
         Tally::read(&line(&mut pipes.1))

@@ -1,6 +1,7 @@
 //! What a request of the test carries: a payload that names it, and the answers
 //! that belong to it.
 
+use crate::unreadable::{Unreadable, ANSWERS};
 use reference::generator::Generator;
 use reference::message::values::DEST_ACTOR;
 use reference::message::{Invoke, Message};
@@ -81,6 +82,11 @@ impl Request {
     /// What a publisher that got the payload answers.
     pub fn answer(publisher: u8, payload: &[u8]) -> Vec<u8> {
         [b"from", &[publisher][..], payload].concat()
+    }
+
+    /// What it sends instead, where the relay is to be unable to read it.
+    pub fn unreadable(payload: &[u8]) -> Unreadable {
+        ANSWERS[payload.len() % ANSWERS.len()]
     }
 
     pub fn error_code(publisher: u8) -> i32 {

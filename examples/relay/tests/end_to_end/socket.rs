@@ -112,6 +112,11 @@ impl Socket {
         self.stream.flush()
     }
 
+    /// The connection itself, for what is to be done without a link.
+    pub fn stream(&mut self) -> &mut TcpStream {
+        &mut self.stream
+    }
+
     /// Ends the connection at once.
     pub fn drop_now(self) {
         let _ = self.stream.shutdown(Shutdown::Both);

@@ -2,6 +2,7 @@
 
 use super::*;
 use crate::packet_type::{HANDSHAKE, NONCE, PING, PONG};
+use crate::{NetPid, NetPids};
 
 /// A link in the middle of a conversation, every field by hand.
 const TALKING: Link = Link {
@@ -167,4 +168,25 @@ fn a_clock_difference_has_a_sign() {
     assert_eq!(clock(1000, 1030), near(-30));
     assert_eq!(clock(1030, 1000), near(30));
     assert!(!clock(1031, 1000).near);
+}
+
+#[test]
+fn a_handshake_names_two_processes() {
+    let body = b"flagdcbafehglkjitsrqvuxw|{zyrest";
+    let pids = unsafe { relay_read_netpids(body.as_ptr(), body.len()) };
+    let expected = NetPids {
+        sender: NetPid {
+            ip: 0x6162_6364,
+            port: 0x6566,
+            pid: 0x6768,
+            start: 0x696a_6b6c,
+        },
+        peer: NetPid {
+            ip: 0x7172_7374,
+            port: 0x7576,
+            pid: 0x7778,
+            start: 0x797a_7b7c,
+        },
+    };
+    assert_eq!(pids, expected);
 }

@@ -1,0 +1,223 @@
+//! Tells the core what happened and which time is over, and does what it wants.
+
+use super::connection::Connection;
+use super::stream::{spawn_reader, spawn_writer, Owner};
+use super::{Input, Options};
+use crate::core::Core;
+use crate::event::{Action, Event, Opening, Peer};
+use relay::{NetPid, LINKS};
+use std::collections::hash_map::{Entry, HashMap};
+use std::collections::VecDeque;
+use std::fs::File;
+use std::io::{self, Read, Write};
+use std::net::{IpAddr, Shutdown, SocketAddr, TcpStream};
+use std::sync::mpsc::SyncSender;
+use std::sync::Arc;
+use std::time::{Duration, Instant, SystemTime, UNIX_EPOCH};
+
+pub struct Server {
+    core: Core,
+    connections: HashMap<Peer, Connection>,
+    inputs: SyncSender<Input>,
+    next_serial: u64,
+    random: File,
+    start: u32,
+    keep_alive: Duration,
+    next_tick: Instant,
+    opening: Duration,
+}
+
+impl Server {
+    pub fn new(options: &Options, inputs: SyncSender<Input>) -> io::Result<Server> {
+        Ok(Server {
+            core: Core::new(options.publishers.map(|publisher| publisher.settings)),
+            connections: HashMap::new(),
+            inputs,
+            next_serial: 0,
+            random: File::open("/dev/urandom")?,
+            start: clock(),
+            keep_alive: options.keep_alive,
+            next_tick: Instant::now() + options.keep_alive,
+            opening: options.opening,
+        })
+    }
+
+    pub fn next_deadline(&self) -> Instant {
+        let deadlines = self.connections.values().filter_map(Connection::deadline);
+        deadlines.fold(self.next_tick, Instant::min)
+    }
+
+    /// Deals with all deadlines that are over.
+    pub fn expire(&mut self, now: Instant) {
+        if self.next_tick <= now {
+            self.next_tick = now + self.keep_alive;
+            self.tell(Event::Tick);
+        }
+        while let Some((peer, connection)) = self.overdue(now) {
+            if connection.expire() {
+                self.tell(Event::OpeningOver(peer));
+            }
+        }
+    }
+
+    fn overdue(&mut self, now: Instant) -> Option<(Peer, &mut Connection)> {
+        let is_over = |connection: &Connection| connection.deadline().is_some_and(|at| at <= now);
+        let mut connections = self.connections.iter_mut();
+        let (peer, connection) = connections.find(|(_, connection)| is_over(connection))?;
+        Some((*peer, connection))
+    }
+
+    pub fn handle(&mut self, input: Input) {
+        match input {
+            Input::Accepted(stream) => self.accepted(stream),
+            Input::Connected(publisher, serial, stream) => {
+                self.connected(Peer::Publisher(publisher), serial, &stream);
+            }
+            Input::Bytes(peer, serial, bytes) if self.is_live(peer, serial) => {
+                self.tell(Event::Bytes(peer, &bytes));
+            }
+            Input::Closed(peer, serial) if self.is_live(peer, serial) => {
+                self.drop_connection(peer);
+                self.tell(Event::Closed(peer));
+            }
+            Input::Bytes(..) | Input::Closed(..) => {}
+            Input::Written(peer, serial) => self.written(peer, serial),
+            Input::Report => {
+                // The relay goes on if nobody reads its output.
+                let _ = writeln!(io::stdout(), "{}", self.core.counts());
+            }
+        }
+    }
+
+    /// The connection of a peer, if it is still this one.
+    fn current(&self, peer: Peer, serial: u64) -> Option<&Connection> {
+        let connection = self.connections.get(&peer);
+        connection.filter(|connection| connection.serial == serial)
+    }
+
+    fn is_live(&self, peer: Peer, serial: u64) -> bool {
+        self.current(peer, serial).is_some_and(Connection::is_live)
+    }
+
+    /// A connection is over, and its link is free again.
+    fn written(&mut self, peer: Peer, serial: u64) {
+        let Some(connection) = self.current(peer, serial) else {
+            return;
+        };
+        // It was not dropped: what it was sent could not be written.
+        let failed = connection.is_live();
+        self.connections.remove(&peer);
+        if failed {
+            self.tell(Event::Closed(peer));
+        }
+    }
+
+    /// A front end gets the lowest free link; without one it is turned away.
+    fn accepted(&mut self, stream: TcpStream) {
+        let mut fronts = (0..LINKS).map(Peer::Front);
+        let Some(peer) = fronts.find(|front| !self.connections.contains_key(front)) else {
+            return self.tell(Event::TurnedAway);
+        };
+        let serial = self.next_serial;
+        self.next_serial += 1;
+        self.connected(peer, serial, &Arc::new(stream));
+    }
+
+    fn connected(&mut self, peer: Peer, serial: u64, stream: &Arc<TcpStream>) {
+        match self.set_up(peer, serial, stream) {
+            Ok((connection, opening)) => {
+                // An earlier one of a publisher may still be written.
+                if let Some(mut earlier) = self.connections.insert(peer, connection) {
+                    earlier.shut();
+                }
+                self.tell(Event::Connected(peer, opening));
+            }
+            Err(_) => {
+                // Its reader sees the end then.
+                let _ = stream.shutdown(Shutdown::Both);
+                self.tell(Event::TurnedAway);
+            }
+        }
+    }
+
+    /// A publisher's reader is the thread that connected to it.
+    fn set_up(
+        &mut self,
+        peer: Peer,
+        serial: u64,
+        stream: &Arc<TcpStream>,
+    ) -> io::Result<(Connection, Opening)> {
+        let opening = self.opening(stream)?;
+        let owner = Owner {
+            peer,
+            serial,
+            inputs: self.inputs.clone(),
+        };
+        if let Peer::Front(_) = peer {
+            spawn_reader(stream, owner.clone())?;
+        }
+        let queue = spawn_writer(stream, owner)?;
+        let opened_by = Instant::now() + self.opening;
+        let connection = Connection::new(serial, Arc::clone(stream), queue, opened_by);
+        Ok((connection, opening))
+    }
+
+    fn opening(&mut self, stream: &TcpStream) -> io::Result<Opening> {
+        let mut random = [0; 16];
+        self.random.read_exact(&mut random)?;
+        let (own, peer) = (stream.local_addr()?, stream.peer_addr()?);
+        let pid = std::process::id() as u16;
+        Ok(Opening {
+            random,
+            own: net_pid(own, pid, self.start),
+            // Of a peer only the address is known.
+            peer: net_pid(peer, 0, 0),
+        })
+    }
+
+    /// What giving up a connection leads to comes after what was wanted before.
+    fn tell(&mut self, event: Event) {
+        let mut actions = VecDeque::from(self.core.handle(event, clock()));
+        while let Some(action) = actions.pop_front() {
+            match action {
+                Action::Send(peer, packet) => {
+                    let connection = self.connections.get_mut(&peer);
+                    if connection.is_some_and(|connection| connection.send(packet).is_err()) {
+                        actions.extend(self.core.handle(Event::Slow(peer), clock()));
+                    }
+                }
+                Action::Close(peer) => self.drop_connection(peer),
+            }
+        }
+    }
+
+    /// Its link is free at once if nothing waits for its peer.
+    fn drop_connection(&mut self, peer: Peer) {
+        if let Entry::Occupied(mut entry) = self.connections.entry(peer) {
+            if entry.get().is_idle() {
+                entry.remove();
+            } else {
+                entry.get_mut().drop_by(Instant::now() + self.keep_alive);
+            }
+        }
+    }
+}
+
+fn net_pid(address: SocketAddr, pid: u16, start: u32) -> NetPid {
+    let ip = match address.ip() {
+        IpAddr::V4(ip) => u32::from(ip),
+        IpAddr::V6(_) => 0,
+    };
+    NetPid {
+        ip,
+        port: address.port(),
+        pid,
+        start,
+    }
+}
+
+/// Seconds since 1970.
+fn clock() -> u32 {
+    let since = SystemTime::now().duration_since(UNIX_EPOCH);
+    since.map_or(0, |duration| duration.as_secs() as u32)
+}
