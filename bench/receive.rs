@@ -5,14 +5,20 @@
 //! server. For each checksum the candidates take turns, and the shortest and the median round of each are printed, in
 //! processor time, so that another load on the machine counts for less. Before that their answers are compared. The
 //! stream is longer than the second-level cache, for every candidate alike.
+//!
+//! On a padded link the bodies have one byte more: three zeros follow each packet, and three words stand before it, the
+//! most that a flush behind each writes.
 
-use reference::link::{Link as Second, Outgoing, Received};
+use reference::link::{Link as Second, Outgoing, Received, Settings as SecondSettings};
 use reference::message::{Invoke, Message, Side, Span};
 use std::hint::black_box;
 
 #[path = "plain_crc.rs"]
 mod plain_crc;
+#[path = "plain_link.rs"]
+mod plain_link;
 use plain_crc::{bytewise, sliced, tables};
+use plain_link::Plain;
 
 #[repr(C)]
 #[derive(Clone, Copy)]
@@ -20,6 +26,7 @@ struct Settings {
     server: bool,
     allows: bool,
     lowest: u8,
+    padded: bool,
 }
 
 #[repr(C)]
@@ -36,6 +43,7 @@ struct Link {
     crc32c: bool,
     version: u8,
     stage: u8,
+    phase: u8,
     sends: u32,
     gets: u32,
     awaits: bool,
@@ -79,6 +87,8 @@ fn processor_time() -> f64 {
 
 const PACKETS: usize = 4096;
 const BODY: usize = 1024;
+/// Before each packet on a padded link.
+const WORDS: usize = 3;
 const ROUNDS: usize = 25;
 const TIME: u32 = 1_700_000_000;
 
@@ -87,7 +97,7 @@ impl Link {
         unsafe { relay_receive(self, bytes.as_ptr(), bytes.len(), Moment { time: TIME }) }
     }
 
-    /// What a send of the opening does to the link: sending is not in this archive.
+    /// What a send of the opening does to the link, as far as receiving sees it.
     fn sent(&mut self) {
         self.stage += 1;
         self.sends = self.sends.wrapping_add(1);
@@ -106,68 +116,13 @@ fn second(link: &mut Second, bytes: &[u8]) -> RelayArrival {
     }
 }
 
-/// What a user would write by hand: a link after its opening, without its Ping and Pong.
-#[derive(Clone, Copy, Default)]
-struct Plain {
-    gets: u32,
-    closed: bool,
-}
-
-impl Plain {
-    fn receive(&mut self, bytes: &[u8], sum: impl Fn(&[u8]) -> u32) -> RelayArrival {
-        let none = RelayArrival::default();
-        if self.closed {
-            return RelayArrival { refusal: 20, ..none };
-        }
-        match self.look(bytes, sum) {
-            Ok(answer) => answer,
-            Err(refusal) => {
-                self.closed = true;
-                RelayArrival { refusal, ..none }
-            }
-        }
-    }
-
-    fn look(&mut self, bytes: &[u8], sum: impl Fn(&[u8]) -> u32) -> Result<RelayArrival, u8> {
-        let wait = |k: usize| Ok(RelayArrival { tag: 1, more: k - bytes.len(), ..RelayArrival::default() });
-        let word = |at: usize| bytes[at..].first_chunk().map(|b| u32::from_le_bytes(*b)).unwrap_or(0);
-        if bytes.len() < 4 {
-            return wait(4);
-        }
-        let length = word(0) as usize;
-        if length < 16 {
-            return Err(1);
-        }
-        if length > 16_777_215 {
-            return Err(2);
-        }
-        if bytes.len() < 12 {
-            return wait(12);
-        }
-        if word(4) != self.gets {
-            return Err(4);
-        }
-        let kind = word(8);
-        if kind == 0x7acb_87aa || kind == 0x7682_eef5 {
-            return Err(5);
-        }
-        if bytes.len() < length {
-            return wait(length);
-        }
-        if sum(&bytes[..length - 4]) != word(length - 4) {
-            return Err(6);
-        }
-        self.gets = self.gets.wrapping_add(1);
-        Ok(RelayArrival { tag: 2, kind, consumed: length, at: 12, len: length - 16, ..RelayArrival::default() })
-    }
-}
-
 /// A server of ours and one of the second program after the same opening, and what the client then sends.
-fn opened(crc32c: bool, payload: &[u8]) -> (Link, Second, Vec<u8>) {
-    let mut client = Second::new(Side::Client, crc32c);
-    let mut server = Second::new(Side::Server, crc32c);
-    let mut ours = unsafe { relay_set_up(Settings { server: true, allows: crc32c, lowest: 0 }) }.link;
-    let mut buffer = vec![0; BODY + 16];
+fn opened(crc32c: bool, padded: bool, payload: &[u8]) -> (Link, Second, Vec<u8>) {
+    let fresh = |side| Second::set_up(SecondSettings { padded, ..SecondSettings::new(side, crc32c) });
+    let mut client = fresh(Side::Client).expect("a link");
+    let mut server = fresh(Side::Server).expect("a link");
+    let mut ours = unsafe { relay_set_up(Settings { server: true, allows: crc32c, lowest: 0, padded }) }.link;
+    let mut buffer = vec![0; 2 * BODY];
     for step in [Outgoing::Nonce(TIME, [7; 16]), Outgoing::Handshake([1; 12], [2; 12])] {
         let size = client.send(&step, &mut buffer).expect("the client's turn");
         assert_eq!(ours.receive(&buffer[..size]), second(&mut server, &buffer[..size]));
@@ -180,6 +135,9 @@ fn opened(crc32c: bool, payload: &[u8]) -> (Link, Second, Vec<u8>) {
     let mut stream = Vec::new();
     for _ in 0..PACKETS {
         let size = client.send(&Outgoing::Message(invoke), &mut buffer).expect("an open link");
+        if padded {
+            stream.extend([4, 0, 0, 0].repeat(WORDS));
+        }
         stream.extend(&buffer[..size]);
     }
     (ours, server, stream)
@@ -198,14 +156,14 @@ fn answers(stream: &[u8], mut receive: impl FnMut(&[u8]) -> RelayArrival) -> usi
 }
 
 /// The candidates give the same answers on the stream, on its first packet cut at every byte, and with a byte changed.
-fn compare(ours: Link, server: &Second, stream: &[u8], sum: impl Fn(&[u8]) -> u32) {
-    let all = |ours: &mut Link, server: &mut Second, plain: &mut Plain, bytes: &[u8]| {
+fn compare<const PADDED: bool>(ours: Link, server: &Second, stream: &[u8], sum: impl Fn(&[u8]) -> u32) {
+    let all = |ours: &mut Link, server: &mut Second, plain: &mut Plain<PADDED>, bytes: &[u8]| {
         let answer = ours.receive(bytes);
-        assert_eq!(answer, second(server, bytes));
         assert_eq!(answer, plain.receive(bytes, &sum));
+        assert_eq!(answer, second(server, bytes));
         answer.consumed
     };
-    let packet = BODY + 16;
+    let packet = stream.len() / PACKETS;
     for n in 0..=packet {
         all(&mut ours.clone(), &mut server.clone(), &mut Plain::default(), &stream[..n]);
         let mut changed = stream[..packet].to_vec();
@@ -235,55 +193,65 @@ fn times(candidates: &mut [Box<dyn FnMut() -> usize + '_>]) -> Vec<(f64, f64)> {
     rounds.iter().map(|rounds| (rounds[0], rounds[ROUNDS / 2])).collect()
 }
 
-fn measure(name: &str, crc32c: bool, payload: &[u8]) {
-    let (ours, server, stream) = opened(crc32c, payload);
+fn measure<const PADDED: bool>(name: &str, crc32c: bool, payload: &[u8]) {
+    let (ours, server, stream) = opened(crc32c, PADDED, payload);
     let stream = &stream[..];
     let tables = tables(if crc32c { 0x82F6_3B78 } else { 0xEDB8_8320 });
+    let before = if PADDED { 4 * WORDS } else { 0 };
+    let summed = before..before + payload.len() + 20;
     let alone = |s: &[u8]| unsafe {
         if crc32c { relay_crc32c(s.as_ptr(), s.len()) } else { relay_crc32(s.as_ptr(), s.len()) }
     };
-    compare(ours, &server, stream, |s| sliced(&tables, s));
-    let best = times(&mut [
+    compare::<PADDED>(ours, &server, stream, |s| sliced(&tables, s));
+    let mut candidates: Vec<Box<dyn FnMut() -> usize + '_>> = vec![
         Box::new(|| {
             let mut link = ours;
             answers(stream, |s| link.receive(s))
         }),
-        Box::new(|| stream.chunks(BODY + 16).map(|packet| black_box(alone(&packet[..BODY + 12]))).count()),
+        Box::new(|| stream.chunks(stream.len() / PACKETS).map(|s| black_box(alone(&s[summed.clone()]))).count()),
+        // Not before ours: it takes so long that the stream may have left the caches.
         Box::new(|| {
             let mut link = server.clone();
             answers(stream, |s| second(&mut link, s))
         }),
         Box::new(|| {
-            let mut link = Plain::default();
+            let mut link = Plain::<PADDED>::default();
             answers(stream, |s| link.receive(s, |s| !bytewise(&tables[0], !0, s)))
         }),
         Box::new(|| {
-            let mut link = Plain::default();
+            let mut link = Plain::<PADDED>::default();
             answers(stream, |s| link.receive(s, |s| sliced(&tables, s)))
         }),
-    ]);
-    for (which, of) in [("shortest", (|t| t.0) as fn(&(f64, f64)) -> f64), ("median", |t| t.1)] {
-        let t: Vec<f64> = best.iter().map(of).collect();
-        print!("| {name}, {which} | {:.0} | {:.0} |", t[0], t[1]);
-        for other in &t[2..] {
-            print!(" {other:.0} ({:.2}) |", other / t[0]);
-        }
-        println!();
+    ];
+    let best = times(&mut candidates);
+    print(&format!("{name}, shortest"), &best.iter().map(|t| t.0).collect::<Vec<_>>());
+    print(&format!("{name}, median"), &best.iter().map(|t| t.1).collect::<Vec<_>>());
+}
+
+/// A row of ours, the checksum alone, the second program, and the two in plain Rust.
+fn print(name: &str, times: &[f64]) {
+    print!("| {name} | {:.0} | {:.0} |", times[0], times[1]);
+    for other in &times[2..] {
+        print!(" {other:.0} ({:.2}) |", other / times[0]);
     }
+    println!();
 }
 
 fn main() {
     let mut state = 1u32;
-    // with its query number, a body of 1 KiB
-    let payload: Vec<u8> = (0..BODY - 8)
+    // with its query number, a body of 1 KiB and a byte
+    let longer: Vec<u8> = (0..BODY - 8 + 1)
         .map(|_| {
             state = state.wrapping_mul(1_664_525).wrapping_add(1_013_904_223);
             (state >> 24) as u8
         })
         .collect();
-    println!("\nNanoseconds a packet with a body of 1 KiB, and how many times ours is as fast.\n");
+    let payload = &longer[..BODY - 8];
+    println!("\nNanoseconds a packet, its body 1 KiB (padded: a byte more), and how many times ours is as fast.\n");
     println!("| checksum | relay_receive | checksum alone | second program | Rust, one table | Rust, eight tables |");
     println!("|---|---|---|---|---|---|");
-    measure("CRC-32", false, &payload);
-    measure("CRC-32C", true, &payload);
+    measure::<false>("CRC-32", false, payload);
+    measure::<true>("CRC-32, padded", false, &longer);
+    measure::<false>("CRC-32C", true, payload);
+    measure::<true>("CRC-32C, padded", true, &longer);
 }

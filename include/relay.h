@@ -45,6 +45,8 @@ enum {
     RELAY_PING_OUT_OF_TURN = 21,        /* a Ping or Pong out of turn */
     RELAY_NOT_OUR_TURN = 22,            /* in the opening: a send at the other side's turn, or a receive at ours */
     RELAY_VERSION_TOO_OLD = 24,         /* a Nonce's version is below the link's lowest */
+    RELAY_PADDING_NOT_ZERO = 25,        /* a byte of the padding behind a packet is not 0 */
+    RELAY_FOURTH_WORD = 26,             /* a fourth word of 4 before a packet */
     RELAY_OUT_OF_RANGE = 30,            /* a link, publisher, first number or lowest version is out of range */
     RELAY_IN_FLIGHT_ALREADY = 31,       /* the link has a request in flight with this number */
     RELAY_LOAD_AT_LIMIT = 32,           /* the publisher has 16 requests in flight */
@@ -116,6 +118,8 @@ typedef struct relay_settings {
     bool server;
     bool allows;    /* CRC-32C is offered by a client, or granted by a server that is offered it */
     uint8_t lowest; /* the lowest version that the other side's Nonce may have, 0 to 2; 0 takes every version */
+    bool padded;    /* from the Handshakes on zeros follow each packet up to a multiple of 4 bytes, and up to three
+                       words of value 4 may stand before one; both ends are set alike */
 } relay_settings;
 
 /* What the caller gives with each call. */
@@ -130,6 +134,7 @@ typedef struct relay_link {
     bool crc32c;      /* the Handshakes agreed on CRC-32C */
     uint8_t version;  /* of the other side's Nonce */
     uint8_t stage;    /* how many packets of the opening went over, in either direction: 4 after it */
+    uint8_t phase;    /* on a padded link, the words since the first byte of our Handshake, modulo 4 */
     uint32_t sends;   /* the next packet's number, of each direction */
     uint32_t gets;
     bool awaits;      /* a Ping of ours is unanswered, and its ID */
@@ -161,12 +166,15 @@ typedef struct relay_arrival {
     uint8_t refusal;
     uint32_t kind;   /* a packet's type */
     size_t more;     /* how many bytes more are needed at least (document 01: wait for k more) */
-    size_t consumed; /* how many bytes the packet takes (document 01: the bytes used) */
+    size_t consumed; /* how many bytes the packet takes (document 01: the bytes used), with the words before it and the
+                        zeros behind it on a padded link */
     size_t at, len;  /* its body: len bytes from byte at on */
 } relay_arrival;
 
 /* The packet at the front of the bytes, how many bytes it lacks, or why it is refused. Refusals 1 to 10, 17, 21 and 24
- * close the link; 20, 22 and an incomplete packet leave it as it was. */
+ * to 26 close the link; 20, 22 and an incomplete packet leave it as it was. On a padded link the longest packet takes
+ * 16,777,228 bytes with its words and zeros, and words with no packet behind them are an incomplete one: the driver
+ * keeps them, as it keeps those that a client flushed behind its Handshake while the server's is not sent yet (22). */
 relay_arrival relay_receive(relay_link *link, const uint8_t *bytes, size_t n, relay_moment moment);
 
 /* A part of the lent bytes. */
@@ -223,7 +231,8 @@ typedef struct relay_outgoing {
     relay_netpid peer;
 } relay_outgoing;
 
-/* The size of the packet at the front of the buffer, or why none was written: refusal is 0 where one was. */
+/* How many bytes were written at the front of the buffer, a packet's zeros among them, or why none: refusal is 0 where
+ * they were. */
 typedef struct relay_sent {
     uint8_t refusal;
     size_t size;
@@ -233,6 +242,16 @@ typedef struct relay_sent {
  * payload is what an invoke or result carries, or an error's text. A Nonce bears moment's time. */
 relay_sent relay_send(relay_link *link, uint8_t *buf, size_t room, const uint8_t *payload, size_t n,
                       relay_outgoing outgoing, relay_moment moment);
+
+/* Writes the words of value 4 at the front of buf that bring what a padded link wrote since the first byte of our
+ * Handshake to a multiple of 16 bytes, and hands back their size: 0, 4, 8 or 12, and 0 before our Handshake and on an
+ * unpadded link. Bytes past them stay. Refusals: 20, then 16; after one the link and every byte of buf are as before.
+ *
+ * When to flush: if the bytes go through a cipher, a driver must flush behind the last packet that it hands over at
+ * once, before it waits for anything. A cipher gives out whole blocks of 16 bytes only, so that what lies past the last
+ * whole block does not arrive before more follows it. The words go out behind that packet, like a packet. Without a
+ * cipher a padded link is read whether it is flushed or not. A flush that is not needed writes nothing. */
+relay_sent relay_flush(relay_link *link, uint8_t *buf, size_t room);
 
 /* ---- The table of requests in flight (document 01: the ticket table) ---- */
 

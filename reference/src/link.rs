@@ -3,6 +3,7 @@
 
 mod opening;
 pub mod packet;
+mod padding;
 mod receive;
 mod send;
 #[cfg(test)]
@@ -23,6 +24,8 @@ pub struct Settings {
     pub crc32c_allowed: bool,
     /// A Nonce of theirs below it is refused. 0 if not said: none is.
     pub lowest_version: u8,
+    /// Set by hand at both ends; nothing on the wire tells. False if not said.
+    pub padded: bool,
 }
 
 impl Settings {
@@ -32,6 +35,7 @@ impl Settings {
             side,
             crc32c_allowed,
             lowest_version: 0,
+            padded: false,
         }
     }
 
@@ -61,6 +65,8 @@ pub struct Link {
     awaited: Option<u64>,
     /// The ID of their Ping that we have not answered yet.
     owed: Option<u64>,
+    /// How many bytes we wrote from the first byte of our Handshake on.
+    since_handshake: u64,
     closed: bool,
 }
 
@@ -79,6 +85,9 @@ pub struct State {
     pub their_version: u8,
     pub awaited: Option<u64>,
     pub owed: Option<u64>,
+    /// All bytes that it wrote from the first byte of its own Handshake on:
+    /// packets, zeros and words of a flush; 0 before it.
+    pub since_handshake: u64,
 }
 
 #[derive(Clone, Copy, Debug, PartialEq, Eq)]
@@ -87,8 +96,10 @@ pub enum Received {
     Wait(usize),
     Packet {
         packet_type: u32,
-        /// How many of the lent bytes it took.
+        /// How many of the lent bytes it took, on padded links with the words
+        /// before it and the zeros behind it.
         consumed: usize,
+        /// Within the lent bytes.
         body: Span,
         /// Their time minus ours, if it was a Nonce.
         clock: Option<i64>,
@@ -142,6 +153,7 @@ impl Link {
             crc32c_offered: false,
             awaited: None,
             owed: None,
+            since_handshake: 0,
             closed: false,
         }
     }
@@ -166,6 +178,7 @@ impl Link {
             their_version: self.their_version,
             awaited: self.awaited,
             owed: self.owed,
+            since_handshake: self.since_handshake,
         }
     }
 
@@ -177,6 +190,12 @@ impl Link {
             Some((sender, _)) if sender != side => Err(Refusal::NotOurTurn),
             _ => Ok(()),
         }
+    }
+
+    /// Whether the packet that goes over next, either way, is a Handshake or
+    /// comes after it: the Nonces of both directions go before both Handshakes.
+    fn is_past_nonces(&self) -> bool {
+        !matches!(self.stage, Stage::ClientNonce | Stage::ServerNonce)
     }
 
     /// In the opening only the next type will do; after it, any but its two.

@@ -25,6 +25,8 @@ pub enum Refusal {
     PingOutOfTurn = 21,
     NotOurTurn = 22,
     VersionTooLow = 24,
+    PaddingNotZero = 25,
+    FourthWord = 26,
     OutOfRange = 30,
     InFlightAlready = 31,
     LoadFull = 32,

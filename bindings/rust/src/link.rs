@@ -23,6 +23,10 @@ pub struct Settings {
     /// The lowest version that the other side's Nonce may have, 0 to 2; 0 takes
     /// every version.
     pub lowest: u8,
+    /// Whether the link is padded: from the Handshakes on zeros follow each
+    /// packet up to a multiple of 4 bytes, and up to three words of value 4 may
+    /// stand before one. Both ends are set alike.
+    pub padded: bool,
 }
 
 impl Settings {
@@ -32,6 +36,7 @@ impl Settings {
             side,
             crc32c,
             lowest: 0,
+            padded: false,
         }
     }
 
@@ -39,11 +44,16 @@ impl Settings {
         Settings { lowest, ..self }
     }
 
+    pub const fn with_padded(self, padded: bool) -> Settings {
+        Settings { padded, ..self }
+    }
+
     fn raw(self) -> raw::Settings {
         raw::Settings {
             server: self.side == Side::Server,
             allows: self.crc32c,
             lowest: self.lowest,
+            padded: self.padded,
         }
     }
 }
@@ -69,7 +79,8 @@ pub enum Arrival<'a> {
     Packet {
         /// Its type.
         kind: u32,
-        /// How many bytes it takes.
+        /// How many bytes it takes, with the words before it and the zeros
+        /// behind it.
         consumed: usize,
         body: &'a [u8],
     },
@@ -92,8 +103,8 @@ impl Link {
     }
 
     /// The packet at the front of `bytes`, how many bytes it lacks, or why it
-    /// is refused. Refusals 1 to 10, 17, 21 and 24 close the link; 20 and 22
-    /// leave it as it was.
+    /// is refused. Refusals 1 to 10, 17, 21 and 24 to 26 close the link; 20 and
+    /// 22 leave it as it was.
     pub fn receive<'a>(&mut self, bytes: &'a [u8], moment: Moment) -> Arrival<'a> {
         let (start, n) = (bytes.as_ptr(), bytes.len());
         // SAFETY: the link is borrowed, the pointer and length are a slice's.

@@ -73,6 +73,8 @@ refusals! {
     PING_OUT_OF_TURN = 21, "a Ping or Pong out of turn";
     NOT_OUR_TURN = 22, "in the opening: a send at the other side's turn, or a receive at ours";
     VERSION_TOO_OLD = 24, "a Nonce's version is below the link's lowest";
+    PADDING_NOT_ZERO = 25, "a byte of the padding behind a packet is not 0";
+    FOURTH_WORD = 26, "a fourth word of 4 before a packet";
     OUT_OF_RANGE = 30, "a link, publisher, first number or lowest version is out of range";
     IN_FLIGHT_ALREADY = 31, "the link has a request in flight with this number";
     LOAD_AT_LIMIT = 32, "the publisher has 16 requests in flight";

@@ -42,6 +42,21 @@ impl Link {
         };
         Refusal::unless(sent.refusal, sent.size)
     }
+
+    /// Writes the words of value 4 at the front of `buf` that bring what a
+    /// padded link wrote since the first byte of our Handshake to a multiple of
+    /// 16 bytes, and hands back their size: 0, 4, 8 or 12, and 0 before our
+    /// Handshake and on an unpadded link. Bytes past them stay. Refused with 20
+    /// and with 16; the link and every byte are then as before.
+    ///
+    /// Where the bytes go through a cipher, a driver must flush behind the last
+    /// packet that it hands over at once, before it waits: a cipher gives out
+    /// whole blocks of 16 bytes only. One flush too many is harmless.
+    pub fn flush(&mut self, buf: &mut [u8]) -> Result<usize, Refusal> {
+        // SAFETY: the link is borrowed, the pointer and length are a slice's.
+        let sent = unsafe { raw::relay_flush(&mut self.0, buf.as_mut_ptr(), buf.len()) };
+        Refusal::unless(sent.refusal, sent.size)
+    }
 }
 
 impl<'a> ToSend<'a> {

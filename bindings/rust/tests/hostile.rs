@@ -1,9 +1,11 @@
 //! Bytes and numbers that no honest peer sends: every call answers.
 
 use relay::{
-    checksum, clock_difference, net_pids, packet_type, read_message, Arrival, FrontNumber, Link,
-    Moment, NetPid, NetPids, PublisherNumber, Refusal, Settings, Side, Table,
+    checksum, clock_difference, net_pids, packet_type, read_message, Arrival, FrontNumber, Invoke,
+    Link, Message, Moment, NetPid, NetPids, PublisherNumber, Refusal, Settings, Side, Table,
+    ToSend,
 };
+use std::collections::BTreeSet;
 
 const NOW: Moment = Moment { time: 0 };
 const SIDES: [Side; 2] = [Side::Client, Side::Server];
@@ -19,13 +21,20 @@ impl Random {
         self.0
     }
 
+    fn below(&mut self, n: usize) -> usize {
+        self.next() as usize % n
+    }
+
     fn bytes(&mut self, n: usize) -> Vec<u8> {
         (0..n).map(|_| self.next() as u8).collect()
     }
-}
 
-fn link(side: Side, lowest: u8) -> Link {
-    Link::new(Settings::new(side, true).with_lowest(lowest)).unwrap()
+    /// A link with any settings that are not refused.
+    fn link(&mut self, side: Side, padded: bool) -> Link {
+        let settings = Settings::new(side, self.below(2) == 0);
+        let lowest = self.below(3) as u8;
+        Link::new(settings.with_lowest(lowest).with_padded(padded)).unwrap()
+    }
 }
 
 #[test]
@@ -41,6 +50,7 @@ fn lowest_versions_of_all_sizes() {
 
 #[test]
 fn lengths_of_all_sizes() {
+    let server = || Link::new(Settings::new(Side::Server, true)).unwrap();
     for (length, number) in [
         (0, 1),
         (15, 1),
@@ -50,14 +60,14 @@ fn lengths_of_all_sizes() {
         (u32::MAX, 3),
     ] {
         let bytes = u32::to_le_bytes(length);
-        match link(Side::Server, 0).receive(&bytes, NOW) {
+        match server().receive(&bytes, NOW) {
             Arrival::Refused(refusal) => assert_eq!(refusal.number(), number),
             other => panic!("{other:?}"),
         }
     }
     for length in [16, 1023] {
         let bytes = u32::to_le_bytes(length);
-        let arrival = link(Side::Server, 0).receive(&bytes, NOW);
+        let arrival = server().receive(&bytes, NOW);
         assert_eq!(arrival, Arrival::Incomplete(8));
     }
 }
@@ -67,9 +77,9 @@ fn random_bytes_at_either_side() {
     let mut random = Random(1);
     for n in 0..2000 {
         let bytes = random.bytes(n % 100);
-        let lowest = (random.next() % 3) as u8;
         for side in SIDES {
-            let mut link = link(side, lowest);
+            let padded = random.below(2) == 0;
+            let mut link = random.link(side, padded);
             let arrival = link.receive(&bytes, NOW);
             match (side, arrival) {
                 (Side::Client, answer) => {
@@ -81,6 +91,90 @@ fn random_bytes_at_either_side() {
             }
         }
     }
+}
+
+/// The links of a client and a server after their opening.
+fn opened(random: &mut Random, padded: bool) -> [Link; 2] {
+    let mut links = SIDES.map(|side| random.link(side, padded));
+    let nonce = ToSend::Nonce { random: [7; 16] };
+    let pid = NetPid::default();
+    let handshake = ToSend::Handshake {
+        sender: pid,
+        peer: pid,
+    };
+    for (from, what) in [(0, nonce), (1, nonce), (0, handshake), (1, handshake)] {
+        let mut buf = [0; 76];
+        let size = links[from].send(&mut buf, what, NOW).unwrap();
+        links[1 - from].receive(&buf[..size], NOW);
+    }
+    assert!(links.iter().all(Link::is_open));
+    links
+}
+
+/// What a client sends: up to four words, and an invoke.
+fn invoke(random: &mut Random, client: &mut Link) -> Vec<u8> {
+    let payload = [9; 20];
+    let what = ToSend::Message(Message::Invoke(Invoke {
+        number: 1,
+        actor: None,
+        timeout: None,
+        tl2: false,
+        payload: &payload[..random.below(21)],
+    }));
+    let mut buf = [0; 100];
+    let size = client.send(&mut buf, what, NOW).unwrap();
+    [&[4, 0, 0, 0].repeat(random.below(5)), &buf[..size]].concat()
+}
+
+/// A flush into a room of any size: it fits, or nothing is changed.
+fn flush(random: &mut Random, link: &mut Link) {
+    let mut buf = [0xee; 16];
+    let room = random.below(17);
+    let before = link.clone();
+    match link.flush(&mut buf[..room]) {
+        Ok(size) => assert!(size % 4 == 0 && size <= room.min(12) && !link.is_closed()),
+        Err(refusal) => {
+            assert_eq!(refusal == Refusal::LINK_CLOSED, link.is_closed());
+            assert!(link.is_closed() || refusal == Refusal::BUFFER_TOO_SMALL);
+            assert_eq!((&*link, buf), (&before, [0xee; 16]));
+        }
+    }
+}
+
+/// Some bytes of what was sent changed, some cut off, and some put behind.
+fn changed(random: &mut Random, mut bytes: Vec<u8>) -> Vec<u8> {
+    for _ in 0..random.below(3) {
+        let at = random.below(bytes.len());
+        bytes[at] = [0, 4, random.next() as u8][random.below(3)];
+    }
+    bytes.truncate(bytes.len() - random.below(6));
+    let behind = random.below(6);
+    bytes.extend(random.bytes(behind));
+    bytes
+}
+
+#[test]
+fn changed_words_packets_and_zeros_at_open_links() {
+    let mut random = Random(5);
+    let mut seen = BTreeSet::new();
+    for n in 0..40_000 {
+        let [mut client, mut server] = opened(&mut random, n % 8 != 0);
+        let bytes = invoke(&mut random, &mut client);
+        let bytes = changed(&mut random, bytes);
+        match server.receive(&bytes, NOW) {
+            Arrival::Refused(refusal) => {
+                assert!(server.is_closed());
+                seen.insert(refusal.number());
+            }
+            Arrival::Incomplete(more) => assert!(more > 0 && server.is_open()),
+            Arrival::Packet { consumed, body, .. } => {
+                assert!(consumed <= bytes.len() && body.len() + 16 <= consumed);
+            }
+        }
+        flush(&mut random, &mut server);
+        flush(&mut random, &mut client);
+    }
+    assert_eq!(Vec::from_iter(seen), [1, 2, 4, 6, 25, 26]);
 }
 
 #[test]

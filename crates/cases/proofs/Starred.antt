@@ -5,6 +5,7 @@ use mathlib.Core.Bool.{true, false}
 use mathlib.Core.List.{List, [], _∷_, _++_, append-nil}
 use Prim.Native.Nat.{ℕ, _+_, _<_, _^_}
 use lib.IntN.{pos}
+use native.Mathlib.Nat.{add-zero}
 use lib.ListN.{length, replicate}
 use lib.Dec.{eqb, lit<}
 use Rattle.wire.specs.Bytes.{le, bytes}
@@ -22,7 +23,9 @@ use Rattle.link_state.specs.Turn.{maySend, stageAfter}
 use Rattle.packet.specs.Sum.{castagnoliOf, sumOf}
 use Rattle.packet.specs.Allowed.{allowedOf}
 use Rattle.packet_in.specs.Head.{lengthRefusal, headRefusal}
-use Rattle.packet_in.specs.Frame.{wholeOf, frameOf}
+use Rattle.packet.specs.Padding.{paddedOf, padsOf, tailOf, wordsAllowed, phaseAfter}
+use Rattle.packet_in.specs.Words.{wordAt, wordsOf}
+use Rattle.packet_in.specs.Frame.{wholeOf, rowsOf, frameOf}
 use Rattle.opening.specs.Clock.{clockOf, nonceClock, nearOf}
 use Rattle.opening.specs.Nonce.{leastOf, cipherRefused, beyondOf, nonceRefusal}
 use Rattle.link.specs.Look.{turnRefusal, lookOf}
@@ -53,8 +56,8 @@ use Rattle.cases.specs.Cases.{length16, length15, length1023, length1024
 
 -- the server waits for the client's first packet
 awaits : Awaits (SetUp.freshOf (side true)) (SetUp.freshOf (side false))
-unfolding SetUp.freshOf castagnoliOf turnRefusal maySend
-awaits = record { number = refl; checksum = refl; turn = refl }
+unfolding SetUp.freshOf castagnoliOf paddedOf turnRefusal maySend
+awaits = record { number = refl; checksum = refl; stage = refl; profile = refl; turn = refl }
 
 module _ (body : List ℕ) (n : ℕ) (is : length body ≡ n) (len : lengthRefusal (SetUp.freshOf (side true)) (n + 16) ≡ 0) (short : n + 16 < 2 ^ 32) (g : Small body) where
   abbrev server : Link
@@ -66,12 +69,16 @@ module _ (body : List ℕ) (n : ℕ) (is : length body ≡ n) (len : lengthRefus
   whole : packetOf client 0x7acb87aa body ≡ packetOf client 0x7acb87aa body ++ []
   whole = sym (append-nil (packetOf client 0x7acb87aa body))
 
+  size-is : sizeOf client n ≡ n + 16
+  unfolding SetUp.freshOf sizeOf tailOf padsOf
+  size-is = add-zero (n + 16)
+
   passes : nonceRefusal (side true) body our ≡ 0 → inOpening (nonce body) ≡ packet 0x7acb87aa (n + 16) 12 n
   unfolding SetUp.freshOf allowedOf bodyRefusal
   passes ok =
       ap (λ (s : List ℕ). inOpening s) whole
       ∙ (ap (λ (r : Received). ofArrival (r .answer)) (received client 0x7acb87aa body [] server awaits (ap (λ (x : ℕ). lengthRefusal server (x + 16)) is ∙ len) refl (lit< tt) (rw is short) (lit< tt) g our ok)
-      ∙ ap (λ (x : ℕ). packet 0x7acb87aa (x + 16) 12 x) is)
+      ∙ (ap (λ (x : ℕ). packet 0x7acb87aa (sizeOf client x) 12 x) is ∙ ap (λ (x : ℕ). packet 0x7acb87aa x 12 n) size-is))
 
   fails : (r : ℕ) → nonceRefusal (side true) body our ≡ r → eqb r 0 ≡ false → inOpening (nonce body) ≡ refused r
   unfolding SetUp.freshOf allowedOf bodyRefusal
@@ -85,11 +92,11 @@ timed-small t = small-nonce 2 t (replicate 16 0) (small-zeros 16)
 -- ---- the rows
 
 length-16 : Holds length16
-unfolding length16 le bytes clock clocks feed feeds crc maySend stageAfter castagnoliOf sumOf lengthRefusal allowedOf headRefusal wholeOf frameOf turnRefusal lookOf awaitsAfter owesAfter owedAfter closedOf closesOf refusedOf agreedAfter versionAfter afterOf bodyRefusal receiveOf headOf frontOf packetOf
+unfolding length16 le bytes clock clocks feed feeds crc maySend stageAfter castagnoliOf sumOf lengthRefusal allowedOf headRefusal paddedOf padsOf tailOf wordsAllowed wordAt wordsOf wholeOf rowsOf frameOf turnRefusal lookOf awaitsAfter owesAfter owedAfter closedOf closesOf refusedOf agreedAfter versionAfter afterOf bodyRefusal receiveOf headOf frontOf packetOf
 length-16 = refl
 
 length-15 : Holds length15
-unfolding length15 le bytes turnRefusal maySend lookOf frameOf lengthRefusal receiveOf
+unfolding length15 le bytes turnRefusal maySend lookOf paddedOf wordsAllowed wordAt wordsOf rowsOf frameOf lengthRefusal receiveOf
 length-15 = refl
 
 length-1023 : Holds length1023
@@ -97,15 +104,15 @@ unfolding length1023 nonceRefusal leastOf cipherRefused beyondOf nearOf nonceClo
 length-1023 = passes (timed 1000 ++ replicate 947 0) 1007 refl refl (lit< tt) (small-append (timed 1000) (replicate 947 0) (timed-small 1000) (small-zeros 947)) refl
 
 length-1024 : Holds length1024
-unfolding length1024 le bytes turnRefusal maySend lookOf frameOf lengthRefusal receiveOf SetUp.freshOf
+unfolding length1024 le bytes turnRefusal maySend lookOf paddedOf wordsAllowed wordAt wordsOf rowsOf frameOf lengthRefusal receiveOf SetUp.freshOf
 length-1024 = refl
 
 number-sent : Holds numberSent
-unfolding numberSent pingStep controlStep controlAnswer sendRefusal maySend allowedOf sizeOf fitsOf sentOf bytes
+unfolding numberSent pingStep controlStep controlAnswer sendRefusal maySend allowedOf paddedOf padsOf tailOf phaseAfter sizeOf fitsOf sentOf bytes
 number-sent = refl
 
 number-received : Holds numberReceived
-unfolding numberReceived le bytes clock clocks feed feeds crc maySend stageAfter castagnoliOf sumOf lengthRefusal allowedOf headRefusal wholeOf frameOf turnRefusal lookOf awaitsAfter owesAfter owedAfter closedOf closesOf refusedOf agreedAfter versionAfter afterOf bodyRefusal receiveOf headOf frontOf packetOf
+unfolding numberReceived le bytes clock clocks feed feeds crc maySend stageAfter castagnoliOf sumOf lengthRefusal allowedOf headRefusal paddedOf padsOf tailOf wordsAllowed wordAt wordsOf wholeOf rowsOf frameOf turnRefusal lookOf awaitsAfter owesAfter owedAfter closedOf closesOf refusedOf agreedAfter versionAfter afterOf bodyRefusal receiveOf headOf frontOf packetOf
 number-received = refl
 
 clock-30-behind : Holds clock30Behind

@@ -35,7 +35,7 @@ _is_ x y = record { ours = x; paper = y }
 
 -- the settings of a server, or of a client
 abbrev pub side : Bool → Settings
-side server = record { server = server; allows = false; lowest = 0 }
+side server = record { server = server; allows = false; lowest = 0; padded = false }
 
 -- our clock
 abbrev pub our : Moment
@@ -50,6 +50,7 @@ opened server sends gets =
       crc32c = false;
       version = 2;
       stage = 4;
+      phase = 0;
       sends = sends;
       gets = gets;
       awaits = false;

@@ -60,7 +60,7 @@ pub fn handshake_step(link: Link, buf: &mut [u8], sender: NetPid, peer: NetPid) 
             put_handshake(buf, flags(link), sender, peer);
             seal(buf, link, HANDSHAKE, 28);
             Step {
-                link: sent(link, HANDSHAKE, 0),
+                link: sent(link, HANDSHAKE, 0, n),
                 answer: Sent::Written(n),
             }
         }

@@ -27,7 +27,7 @@ pub fn ping_step(link: Link, buf: &mut [u8], id: u64) -> Step
             put_u64(buf, 12, id);
             seal(buf, link, PING, 8);
             Step {
-                link: sent(link, PING, id),
+                link: sent(link, PING, id, n),
                 answer: Sent::Written(n),
             }
         }
@@ -49,7 +49,7 @@ pub fn pong_step(link: Link, buf: &mut [u8]) -> Step
             put_u64(buf, 12, link.owed);
             seal(buf, link, PONG, 8);
             Step {
-                link: sent(link, PONG, 0),
+                link: sent(link, PONG, 0, n),
                 answer: Sent::Written(n),
             }
         }

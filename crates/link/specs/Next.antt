@@ -21,6 +21,7 @@ closedOf l =
       crc32c = l .crc32c;
       version = l .version;
       stage = l .stage;
+      phase = l .phase;
       sends = l .sends;
       gets = l .gets;
       awaits = l .awaits;
@@ -30,9 +31,17 @@ closedOf l =
     }
 
 -- "On receive, 1 to 10, 21, and 17 for Ping and Pong close the link; nothing else does" (receive gives 17 for no other);
--- 24 "closes the link" too (document 02, A11)
+-- 24, 25 and 26 close it too (document 02, A11 and A7)
 unfoldable pub closesOf : ℕ → Bool
-closesOf k = first ((eqb k 17, true) ∷ (eqb k 21, true) ∷ (eqb k 24, true) ∷ []) (leb 1 k && leb k 10)
+closesOf k =
+    first (
+    (eqb k 17, true) ∷
+    (eqb k 21, true) ∷
+    (eqb k 24, true) ∷
+    (eqb k 25, true) ∷
+    (eqb k 26, true) ∷
+    []
+    ) (leb 1 k && leb k 10)
 
 -- the link after a refusal
 unfoldable pub refusedOf : Link → ℕ → Link
@@ -55,6 +64,7 @@ afterOf l kind b m =
       crc32c = agreedAfter l kind b;
       version = versionAfter l kind b;
       stage = stageAfter (l .stage);
+      phase = l .phase;
       sends = l .sends;
       gets = (l .gets + 1) % 2 ^ 32;
       awaits = awaitsAfter l kind;

@@ -10,7 +10,9 @@ use packet::HANDSHAKE;
 use packet::NONCE;
 use refusal::BEYOND_OFFER;
 use refusal::BODY_SIZE;
+use refusal::FOURTH_WORD;
 use refusal::LENGTH_UNDER_16;
+use refusal::PADDING_NOT_ZERO;
 use refusal::PING_OUT_OF_TURN;
 use refusal::VERSION_TOO_OLD;
 use wire::u8_at;
@@ -35,6 +37,12 @@ fn closes(refusal: u8) -> bool
         return true;
     }
     if refusal == VERSION_TOO_OLD {
+        return true;
+    }
+    if refusal == PADDING_NOT_ZERO {
+        return true;
+    }
+    if refusal == FOURTH_WORD {
         return true;
     }
     if refusal < LENGTH_UNDER_16 {
@@ -82,6 +90,7 @@ pub(crate) fn after(link: Link, kind: u32, b: &[u8], moment: Moment) -> Link
         crc32c: agreed_after(link, kind, b),
         version: version_after(link, kind, b),
         stage: stage_after(link.stage),
+        phase: link.phase,
         sends: link.sends,
         gets: std::num::wrapping_add_u32(link.gets, 1),
         awaits: awaits_after(link, kind),

@@ -9,11 +9,12 @@ use Rattle.link_c.specs.declared.RelaySetUp.{RelaySetUp}
 unfoldable pub noLink : Link
 noLink =
     record {
-      set = record { server = false; allows = false; lowest = 0 };
+      set = record { server = false; allows = false; lowest = 0; padded = false };
       closed = true;
       crc32c = false;
       version = 0;
       stage = 0;
+      phase = 0;
       sends = 0;
       gets = 0;
       awaits = false;

@@ -1,6 +1,8 @@
 // Conversations of one link at a time, on the records of standard input. A record is an operation (1 byte) and its
-// fields: 0, a new link; 1, a receive call on given bytes; 2, a send call with a buffer of given size; 3, a new link with
-// all its settings. A line has the answer, or the refusal's number, and says whether the link is closed after it.
+// fields: 0, a new link; 1, a receive call on given bytes; 2, a send call with a buffer of given size; 3, a new link
+// with all its settings; 5, a flush call with a buffer of given size. A line has the answer, or the refusal's number,
+// and says whether the link is closed after it.
+mod flushing;
 mod print;
 mod receiving;
 mod sending;
@@ -34,8 +36,8 @@ fn set_up(old: Link, set: Settings) -> Link {
     }
 }
 
-// Operations 0 and 3: side (1; 1 is a server), whether CRC-32C is allowed (1), lowest version (1), and 5 bytes for
-// settings to come. Only the first n bytes are there, and what is not there is 0.
+// Operations 0 and 3: side (1; 1 is a server), whether CRC-32C is allowed (1), lowest version (1), whether it is padded
+// (1), and 4 bytes for settings to come. Only the first n bytes are there, and what is not there is 0.
 fn begin(old: Link, n: usize) -> Turn {
     let mut head = [0u8; 8];
     if !fill(&mut head, n) {
@@ -48,6 +50,7 @@ fn begin(old: Link, n: usize) -> Turn {
         server: head[0] == 1,
         allows: head[1] == 1,
         lowest: head[2],
+        padded: head[3] == 1,
     };
     Turn {
         link: set_up(old, set),
@@ -60,7 +63,8 @@ fn operation(op: u8, link: Link, lent: &mut [u8]) -> Turn {
         0 => begin(link, 2),
         1 => receiving::receive(link, lent),
         2 => sending::send_record(link, lent),
-        _ => begin(link, 8),
+        3 => begin(link, 8),
+        _ => flushing::flush_record(link),
     }
 }
 
@@ -97,6 +101,7 @@ fn main() {
         server: false,
         allows: false,
         lowest: 0,
+        padded: false,
     };
     match link_state::set_up(set) {
         SetUp::Ready(link) => records(link, lent),

@@ -84,11 +84,11 @@ fn what_of(head: &[u8]) -> ToSend {
 }
 
 // Both checksums, since one over a packet that ends with itself is the same for every packet.
-fn print_answer(answer: Sent, buffer: &[u8]) {
+pub(crate) fn print_answer(word: &[u8], answer: Sent, buffer: &[u8]) {
     match answer {
         Sent::Refused(n) => refused(n),
         Sent::Written(k) => {
-            bytes(b"sent");
+            bytes(word);
             number(k as u64);
             hexadecimal(checksum::crc32(buffer));
             hexadecimal(checksum::crc32c(buffer));
@@ -113,7 +113,7 @@ fn call_and_print(link: Link, head: &[u8], payload: &[u8]) -> Link {
     let room = least(size(wire::u32_at(head, 53)), buffer.len());
     let r = call(link, &mut buffer[0..room], head, payload);
     let answer = r.answer;
-    print_answer(answer, front(buffer, room));
+    print_answer(b"sent", answer, front(buffer, room));
     r.link
 }
 

@@ -1,6 +1,5 @@
 -- A link before its opening (document 01, "Packets" and "Opening"). Assumes nothing.
-use Prim.Native.Nat.{ℕ}
-use mathlib.Core.Bool.{true, false}
+use mathlib.Core.Bool.{false}
 use mathlib.Core.List.{[], _∷_}
 use lib.Dec.{ltb}
 use Rattle.wire.specs.Choice.{first}
@@ -18,6 +17,7 @@ freshOf set =
       crc32c = false;
       version = 0;
       stage = 0;
+      phase = 0;
       sends = 4294967294;
       gets = 4294967294;
       awaits = false;

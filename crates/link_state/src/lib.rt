@@ -22,6 +22,8 @@ pub struct Settings {
     pub allows: bool,
     // the lowest version that the other side's Nonce may have, 0 to 2: 0 takes every version
     pub lowest: u8,
+    // whether the link is padded: zeros follow each packet, and words may stand between packets, from the Handshakes on
+    pub padded: bool,
 }
 
 // What the caller gives with each call.
@@ -41,6 +43,8 @@ pub struct Link {
     pub version: u8,
     // how many packets of the opening went over, in either direction: 4 after it
     pub stage: u8,
+    // on a padded link, the 32-bit words since the first byte of our Handshake, modulo 4
+    pub phase: u8,
     // the next packet's number, of each direction
     pub sends: u32,
     pub gets: u32,
@@ -70,6 +74,7 @@ fn fresh(set: Settings) -> Link
         crc32c: false,
         version: 0,
         stage: 0,
+        phase: 0,
         sends: FIRST_NUMBER,
         gets: FIRST_NUMBER,
         awaits: false,

@@ -4,8 +4,8 @@ use native.Mathlib.Omega.{arith}
 use mathlib.Core.Path.{_≡_, refl, ap, _∙_}
 use mathlib.Core.Bool.{false, not, _&&_}
 use mathlib.Core.List.{List}
-use Prim.Native.Nat.{ℕ, _-_, _≤_}
-use lib.ListN.{length, take}
+use Prim.Native.Nat.{ℕ, _-_, _*_, _≤_}
+use lib.ListN.{length, take, drop}
 use lib.Dec.{ltb, leb, eqb}
 use Rattle.wire.specs.Bytes.{le, part, within}
 use Rattle.wire.proofs.ChoiceLaws.{by-row}
@@ -18,10 +18,12 @@ use Rattle.link_state.specs.Turn.{maySend}
 use Rattle.link_state.proofs.SetUpLaws.{set-up-takes}
 use Rattle.packet.specs.Sum.{sumOf}
 use Rattle.packet.specs.Allowed.{allowedOf, refuses}
+use Rattle.packet.specs.Padding.{tailOf}
 use Rattle.packet.specs.declared.Arrival.{Arrival}
 use Rattle.packet.specs.declared.Arrival.the-variants.{Incomplete, Packet, Refused}
 use Rattle.packet_in.specs.Head.{lengthRefusal, headRefusal}
-use Rattle.packet_in.specs.Frame.{lengthAt, numberAt, kindAt, wholeOf, frameOf}
+use Rattle.packet_in.specs.Words.{wordsOf}
+use Rattle.packet_in.specs.Frame.{lengthAt, numberAt, kindAt, wholeSize, wholeOf, rowsOf, frameOf}
 use Rattle.opening.specs.Clock.{nearOf}
 use Rattle.opening.specs.Nonce.{leastOf, versionAt, cipherRefused, beyondOf, nonceRefusal}
 use Rattle.opening.specs.Handshake.{flagOf, handshakeRefusal}
@@ -29,7 +31,7 @@ use Rattle.link.specs.KeepAlive.{idAt, pingRefusal, pongRefusal}
 use Rattle.link.specs.Look.{turnRefusal, lookOf}
 use Rattle.link.specs.Next.{closesOf, refusedOf}
 use Rattle.link.specs.Receive.{bodyRefusal, refuse, receiveBy, receiveOf}
-use Rattle.link_versions.specs.Calls.{Call, afterCalls}
+use Rattle.link_calls.specs.Calls.{Call, afterCalls}
 use Rattle.link_versions.specs.Before.{nonceBefore, bodyBefore, closesBefore, refuseBefore}
 use Rattle.link_versions.specs.Before.{receiveByBefore, receiveBefore}
 use Rattle.link_versions.proofs.NoOlder.{holds-from-set-up}
@@ -99,25 +101,31 @@ Known (Incomplete k) = Unit {0}
 Known (Packet kind consumed at len) = Unit {0}
 Known (Refused k) = No24 k
 
-module _ (l : Link) (s : List ℕ) (m : Moment) where
-  whole-known : (kind size : ℕ) → Known (wholeOf l s kind size)
+module _ (l : Link) (m : Moment) where
+  whole-known : (s : List ℕ) (kind size zeros before : ℕ) → Known (wholeOf l s kind size zeros before)
   unfolding wholeOf
-  whole-known kind size =
-      by-row Known (not (eqb (le (part s (size - 4) 4)) (sumOf l (take (size - 4) s)))) (Refused 6)
-      (Packet kind size 12 (size - 16)) (λ _. refl) (λ _. tt)
+  whole-known s kind size zeros before =
+      by-row Known (not (eqb (le (part s (size - 4) 4)) (sumOf l (take (size - 4) s)))) (Refused 6) _ (λ _. refl) (λ _.
+      by-row Known (not (eqb (le (part s size zeros)) 0)) (Refused 25) _ (λ _. refl) (λ _. tt))
 
-  look-known : Known (lookOf l s)
-  unfolding lookOf frameOf
-  look-known =
-      by-row Known (refuses (turnRefusal l)) (Refused (turnRefusal l)) _ (λ _. turn-no24 l 0 0 0 s m) (λ _.
+  rows-known : (s : List ℕ) (before : ℕ) → Known (rowsOf l s before)
+  unfolding rowsOf
+  rows-known s before =
       by-row Known (ltb (length s) 4) (Incomplete (4 - length s)) _ (λ _. tt) (λ _.
       by-row Known (refuses (lengthRefusal l (lengthAt s))) (Refused (lengthRefusal l (lengthAt s))) _
       (λ _. length-no24 l (lengthAt s) 0 0 s m) (λ _.
       by-row Known (ltb (length s) 12) (Incomplete (12 - length s)) _ (λ _. tt) (λ _.
       by-row Known (refuses (headRefusal l (numberAt s) (kindAt s))) (Refused (headRefusal l (numberAt s) (kindAt s)))
       _ (λ _. head-no24 l 0 (numberAt s) (kindAt s) s m) (λ _.
-      by-row Known (ltb (length s) (lengthAt s)) (Incomplete (lengthAt s - length s)) _ (λ _. tt)
-      (λ _. whole-known (kindAt s) (lengthAt s)))))))
+      by-row Known (ltb (length s) (wholeSize l s)) (Incomplete (wholeSize l s - length s)) _ (λ _. tt)
+      (λ _. whole-known s (kindAt s) (lengthAt s) (tailOf l (lengthAt s)) before)))))
+
+  look-known : (s : List ℕ) → Known (lookOf l s)
+  unfolding lookOf frameOf
+  look-known s =
+      by-row Known (refuses (turnRefusal l)) (Refused (turnRefusal l)) _ (λ _. turn-no24 l 0 0 0 s m) (λ _.
+      by-row Known (eqb (wordsOf l s) 4) (Refused 26) _ (λ _. refl)
+      (λ _. rows-known (drop (wordsOf l s * 4) s) (wordsOf l s * 4)))
 
 -- such a refusal closes as before
 closes-alike : (k : ℕ) → No24 k → closesOf k ≡ closesBefore k
@@ -153,10 +161,10 @@ module _ (l : Link) (s : List ℕ) (m : Moment) (none : l .set .lowest ≡ 0) wh
       let b : List ℕ = within s i n in
       rw (body-alike kind b, refused-alike l (bodyBefore l kind b m) (body-no24 l 0 0 kind b m))
 
-  -- AS BEFORE: a receive call answers, and leaves the link, as document 01's own rules have it
+  -- AS BEFORE: a receive call answers, and leaves the link, as it would without lowest versions
   pub as-base : receiveOf l s m ≡ receiveBefore l s m
   unfolding receiveOf receiveBefore
-  as-base = by-look (lookOf l s) (look-known l s m)
+  as-base = by-look (lookOf l s) (look-known l m s)
 
 -- set-up refuses nothing
 pub set-up-as-base : (set : Settings) → set .lowest ≡ 0 → setUpOf set ≡ Ready (freshOf set)

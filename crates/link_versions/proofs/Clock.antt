@@ -1,5 +1,5 @@
--- The clock difference of a Nonce that was accepted is handed back: by the second call, on the body that the receive call
--- named and with its clock. Assumes nothing.
+-- The clock difference of a Nonce that was accepted is handed back: by the second call, on the body that the receive
+-- call named and with its clock. Assumes nothing.
 use borrow.Author.Tests.{eq-eqb}
 use native.Mathlib.Omega.{arith}
 use mathlib.Core.Path.{_≡_, refl, sym, ap, _∙_}
@@ -22,8 +22,7 @@ use Rattle.opening.specs.Nonce.{leastOf, versionAt, nonceRefusal}
 use Rattle.link.specs.Look.{lookOf}
 use Rattle.link.specs.Receive.{bodyRefusal, receiveBy, receiveOf}
 use Rattle.link.specs.declared.Received.{Received}
-use Rattle.link_versions.proofs.Accepted.{refuses-none}
-use Rattle.link_versions.proofs.NoOlder.{by-body}
+use Rattle.link_calls.proofs.Ways.{refuses-none, by-body}
 
 -- a Nonce that is not refused
 not-far : (set : Settings) (b : List ℕ) (m : Moment) → nonceRefusal set b m ≡ 0 → nearOf b m ≡ true
@@ -35,7 +34,8 @@ not-far set b m = go (ltb (length b) (leastOf (versionAt b))) (nearOf b m) _
     go true false rest e = absurd (omega arith)
     go false false rest e = absurd (omega arith)
 
-nonce-near : (l : Link) (kind : ℕ) (b : List ℕ) (m : Moment) → refuses (bodyRefusal l kind b m) ≡ false → eqb kind 0x7acb87aa ≡ true → nearOf b m ≡ true
+nonce-near : (l : Link) (kind : ℕ) (b : List ℕ) (m : Moment) → refuses (bodyRefusal l kind b m) ≡ false
+    → eqb kind 0x7acb87aa ≡ true → nearOf b m ≡ true
 unfolding bodyRefusal
 nonce-near l kind b m e q = not-far (l .set) b m (refuses-none (nonceRefusal (l .set) b m) (rw q at e))
 
@@ -44,7 +44,8 @@ pub clock-handed-back : (l : Link) (s : List ℕ) (m : Moment) (consumed at len 
     → receiveOf l s m .answer ≡ Packet 0x7acb87aa consumed at len
     → isNear (nonceClock (bodyOf s (receiveOf l s m .answer)) m) ≡ true
 unfolding receiveOf bodyOf nearOf
-clock-handed-back l s m consumed at len e = ap (λ (a : Arrival). isNear (nonceClock (bodyOf s a) m)) e ∙ go (lookOf l s) e
+clock-handed-back l s m consumed at len e = ap (λ (a : Arrival). isNear (nonceClock (bodyOf s a) m)) e
+    ∙ go (lookOf l s) e
   where
     Right : Received → Type 0
     Right r = r .answer ≡ Packet 0x7acb87aa consumed at len → nearOf (within s at len) m ≡ true

@@ -5,7 +5,7 @@ use mathlib.Core.Path.{_≡_, refl, ap, sym, _∙_}
 use mathlib.Core.Bool.{Bool, true, false}
 use mathlib.Core.List.{List, _++_, append-assoc}
 use Prim.Native.Nat.{ℕ, _+_, _%_, _≤_, _<_}
-use lib.ListN.{length, drop, length-append}
+use lib.ListN.{length, drop, replicate, length-append}
 use lib.Dec.{ltb, leb, eqb}
 use Rattle.wire.specs.Bytes.{le, part, bytes}
 use Rattle.wire.specs.Choice.{pick}
@@ -18,16 +18,17 @@ use Rattle.link_state.specs.SetUp.{setUpOf}
 use Rattle.link_state.specs.Turn.{maySend}
 use Rattle.link_state.proofs.SetUpLaws.{set-up-took}
 use Rattle.packet.specs.Sum.{sumOf}
+use Rattle.packet.specs.Padding.{tailOf}
 use Rattle.packet_out.specs.Packet.{headOf, frontOf, packetOf}
-use Rattle.packet_out.specs.declared.Sent.{Sent}
-use Rattle.packet_out.specs.declared.Sent.the-variants.{Written, Refused}
+use Rattle.packet_out.specs.declared.Sent.the-variants.{Written}
 use Rattle.packet_out.proofs.PacketLaws.{length-head, length-packet, front-stored}
-use Rattle.send_rules.specs.Control.{controlAnswer, stepBy, bufferBy, controlStep, controlBuffer}
-use Rattle.send_rules.proofs.ControlLaws.{fits}
+use Rattle.send_rules.specs.Control.{controlAnswer, bufferBy, controlStep, controlBuffer}
+use Rattle.send_rules.proofs.ControlLaws.{fits, step-answer}
 use Rattle.nonce_out.specs.Nonce.{versionOf, nonceHead, pointOf, nonceBody, nonceStep, nonceBuffer}
 use Rattle.send.specs.Send.{sendOf, sendBuffer}
 use Rattle.send.specs.declared.ToSend.the-variants.{Nonce}
-use Rattle.link_versions.specs.Calls.{Call, afterCalls, heardFrom}
+use Rattle.link_calls.specs.Calls.{Call, afterCalls}
+use Rattle.link_versions.specs.Heard.{heardFrom}
 use Rattle.link_versions.proofs.Accepted.{at-turn}
 use Rattle.link_versions.proofs.NoOlder.{Holds, holds-from-set-up}
 
@@ -77,17 +78,14 @@ module _ (k : Link) (version time : ℕ) (random rest : List ℕ) where
   byte-17 small =
       let H : List ℕ = headOf (length body + 16) (k .sends) kind ++ (bytes 4 0 ++ bytes 1 0) in
       let T : List ℕ = (bytes 2 0 ++ bytes 4 time) ++
-      ((random ++ pointOf) ++ (bytes 4 (sumOf k (frontOf k kind body)) ++ rest)) in
+      ((random ++ pointOf) ++ ((bytes 4 (sumOf k (frontOf k kind body)) ++ replicate (tailOf k
+      (length body + 16)) 0) ++ rest)) in
       let e : length H ≡ 17 = simp (length-append, length-head, length-bytes) in
       let q : packetOf k kind body ++ rest ≡ H ++ (bytes 1 version ++ T) = simp append-assoc in
       ap (λ (t : List ℕ). le (part t 17 1)) q ∙
       (ap le (part-mid H (bytes 1 version) T 17 1 e (length-bytes 1 version)) ∙ le-bytes 1 version small)
 
 -- ---- the send call
-
-answered : (l : Link) (kind id : ℕ) (a : Sent) → stepBy l kind id a .answer ≡ a
-answered l kind id (Written n) = refl
-answered l kind id (Refused k) = refl
 
 module _ (k : Link) (p random b : List ℕ) (m : Moment) (n : ℕ)
     (e : sendOf k Nonce p random m (length b) .answer ≡ Written n) where
@@ -96,7 +94,7 @@ module _ (k : Link) (p random b : List ℕ) (m : Moment) (n : ℕ)
 
   size-answered : controlAnswer k 0x7acb87aa false (length ours) (length b) ≡ Written n
   unfolding sendOf nonceStep controlStep
-  size-answered = sym (answered k 0x7acb87aa 0 (controlAnswer k 0x7acb87aa false (length ours) (length b))) ∙ e
+  size-answered = sym (step-answer k 0x7acb87aa 0 (controlAnswer k 0x7acb87aa false (length ours) (length b))) ∙ e
 
   due : maySend (k .set .server) (k .stage) ≡ true
   unfolding controlAnswer
@@ -114,8 +112,7 @@ module _ (k : Link) (p random b : List ℕ) (m : Moment) (n : ℕ)
       ap (λ (t : List ℕ). le (part t 17 1)) left ∙ byte-17 k (versionOf k) (m .time) random _ (small-version k)
 
 -- NO OLDER IS WRITTEN: a link that was set up, after any calls, leaves no Nonce in a buffer whose version, which is
--- byte 17, is
--- below its lowest; at either side
+-- byte 17, is below its lowest; at either side
 pub writes-no-older : (set : Settings) (l : Link) → setUpOf set ≡ Ready l
     → (cs : List Call) (p random b : List ℕ) (m : Moment) (n : ℕ)
     → sendOf (afterCalls l cs) Nonce p random m (length b) .answer ≡ Written n

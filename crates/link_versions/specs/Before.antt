@@ -1,4 +1,5 @@
--- Receive as it was before a link had a lowest version: document 01's own rules. Assumes nothing.
+-- Receive without lowest versions: document 01's own rules, with what later requests than A11 have added (document 02,
+-- A7: 25 and 26 close a link). Assumes nothing.
 use Prim.Native.Nat.{ℕ}
 use mathlib.Core.Bool.{Bool, true, not, _&&_}
 use mathlib.Core.List.{List, [], _∷_}
@@ -43,9 +44,16 @@ bodyBefore l kind b m =
     []
     ) 0
 
--- "On receive, 1 to 10, 21, and 17 for Ping and Pong close the link; nothing else does"
+-- "On receive, 1 to 10, 21, and 17 for Ping and Pong close the link; nothing else does"; and 25 and 26 (A7)
 unfoldable pub closesBefore : ℕ → Bool
-closesBefore k = first ((eqb k 17, true) ∷ (eqb k 21, true) ∷ []) (leb 1 k && leb k 10)
+closesBefore k =
+    first (
+    (eqb k 17, true) ∷
+    (eqb k 21, true) ∷
+    (eqb k 25, true) ∷
+    (eqb k 26, true) ∷
+    []
+    ) (leb 1 k && leb k 10)
 
 abbrev pub refuseBefore : Link → ℕ → Received
 refuseBefore l k = gives (pick (closesBefore k) (closedOf l) l) (Refused k)

@@ -1,3 +1,3 @@
 -- What the theorems on the lowest version speak of.
-pub mod Calls
+pub mod Heard
 pub mod Before

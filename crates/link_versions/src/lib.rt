@@ -2,6 +2,6 @@
 // the clock difference of a Nonce that was accepted is handed back.
 //
 // They speak of the definitions that the contracts of the crates below equate every call with, so they hold of the code,
-// after every list of calls (specs/Calls.antt). The theorems to read are in proofs/NoOlder.antt, proofs/Writes.antt and
+// after every list of calls (crate link_calls). The theorems to read are in proofs/NoOlder.antt, proofs/Writes.antt and
 // proofs/Clock.antt; proofs/AsBase.antt says that with lowest version 0 receive is what it was before there was one
 // (specs/Before.antt).

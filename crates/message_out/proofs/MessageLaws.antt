@@ -4,7 +4,7 @@ use borrow.Author.Tests.{eq-eqb}
 use mathlib.Core.Path.{_≡_, refl, ap, sym, _∙_}
 use mathlib.Core.Bool.{Bool, true, false, not}
 use mathlib.Core.List.{List}
-use Prim.Native.Nat.{ℕ, _+_}
+use Prim.Native.Nat.{ℕ}
 use lib.ListN.{length}
 use lib.Seq.{sets}
 use lib.Dec.{ltb}
@@ -26,9 +26,9 @@ use Rattle.message_out.specs.declared.Outgoing as O
 use Rattle.message_out.proofs.PlaceLaws.{told}
 
 -- an answer for a body as the answer for its packet
-abbrev sentBy : W.Written → Sent
-sentBy (W.the-variants.Size k) = Written (k + 16)
-sentBy (W.the-variants.Refused k) = Refused k
+abbrev sentBy : Link → W.Written → Sent
+sentBy l (W.the-variants.Size k) = Written (sizeOf l k)
+sentBy l (W.the-variants.Refused k) = Refused k
 
 -- a refusal among the early rows, whatever comes after them
 early-row : (s : ℕ) (y : Bool) (x : Sent) (k : ℕ) → k ≡ pick (refuses s) s (pick y 19 0) → (k ≡ 0 → ⊥) → pick (refuses s) (Refused s) (pick y (Refused 19) x) ≡ Refused k
@@ -48,14 +48,14 @@ no-early-row s y x k e h = go (refuses s) y refl e
     go false true f g = absurd (omega arith)
     go false false f g = refl
 
-by-sent : (x y z u : Bool) (k : ℕ)
-    → pick x (Refused 12) (pick y (Refused 15) (pick z (Refused 2) (pick u (Refused 16) (Written (k + 16)))))
-    ≡ sentBy (pick x (W.the-variants.Refused 12) (pick y (W.the-variants.Refused 15) (pick z (W.the-variants.Refused 2) (pick u (W.the-variants.Refused 16) (W.the-variants.Size k)))))
-by-sent true y z u k = refl
-by-sent false true z u k = refl
-by-sent false false true u k = refl
-by-sent false false false true k = refl
-by-sent false false false false k = refl
+by-sent : (l : Link) (x y z u : Bool) (k : ℕ)
+    → pick x (Refused 12) (pick y (Refused 15) (pick z (Refused 2) (pick u (Refused 16) (Written (sizeOf l k)))))
+    ≡ sentBy l (pick x (W.the-variants.Refused 12) (pick y (W.the-variants.Refused 15) (pick z (W.the-variants.Refused 2) (pick u (W.the-variants.Refused 16) (W.the-variants.Size k)))))
+by-sent l true y z u k = refl
+by-sent l false true z u k = refl
+by-sent l false false true u k = refl
+by-sent l false false false true k = refl
+by-sent l false false false false k = refl
 
 module _ (l : Link) (w : O.Outgoing) (p b : List ℕ) {early : ℕ} (is : early ≡ earlyRefusal l w) where
   -- 20, 22, 5, 19
@@ -67,32 +67,32 @@ module _ (l : Link) (w : O.Outgoing) (p b : List ℕ) {early : ℕ} (is : early 
       (sym (ap (stepBy l (kindOf w) 0) e), sym (ap (bufferBy l (kindOf w) (bodyOf w p) b) e))
 
   -- the answer where none of them applies
-  answered : {a : W.Written} → early ≡ 0 → a ≡ placedAnswer w p (length b) → messageAnswer l w p (length b) ≡ sentBy a
-  unfolding messageAnswer earlyRefusal placedAnswer fitsOf sizeOf
+  answered : {a : W.Written} → early ≡ 0 → a ≡ placedAnswer l w p (length b) → messageAnswer l w p (length b) ≡ sentBy l a
+  unfolding messageAnswer earlyRefusal placedAnswer fitsOf
   answered h e =
       let len : ℕ = length (bodyOf w p) in
       no-early-row (sendRefusal l (kindOf w) false) (wrongWay (l .set .server) w) _ early is h
-      ∙ by-sent (numberZero w) (payloadMisread w p) (ltb 16777199 len) (ltb (length b) (len + 16)) len
-      ∙ ap sentBy (sym e)
+      ∙ by-sent l (numberZero w) (payloadMisread w p) (ltb 16777199 len) (ltb (length b) (sizeOf l len)) len
+      ∙ ap (sentBy l) (sym e)
 
   -- 12, 15, 2, 16
-  pub refused-step : {a : W.Written} {k : ℕ} {b1 : List ℕ} → early ≡ 0 → a ≡ placedAnswer w p (length b) → b1 ≡ placedIn a b (bodyOf w p) → a ≡ W.the-variants.Refused k
+  pub refused-step : {a : W.Written} {k : ℕ} {b1 : List ℕ} → early ≡ 0 → a ≡ placedAnswer l w p (length b) → b1 ≡ placedIn a b (bodyOf w p) → a ≡ W.the-variants.Refused k
       → (record { link = l; answer = Refused k } ≡ messageStep l w p (length b)) × (b1 ≡ messageBuffer l w p b)
   unfolding messageStep messageBuffer
   refused-step {a} {k} h e i f =
-      let t : messageAnswer l w p (length b) ≡ Refused k = answered h e ∙ ap sentBy f in
+      let t : messageAnswer l w p (length b) ≡ Refused k = answered h e ∙ ap (sentBy l) f in
       (sym (ap (stepBy l (kindOf w) 0) t), i ∙ ap (λ (x : W.Written). placedIn x b (bodyOf w p)) f ∙ sym (ap (bufferBy l (kindOf w) (bodyOf w p) b) t))
 
   -- the body is there, and is sealed
-  pub written-step : {a : W.Written} {len kind : ℕ} {b1 b2 : List ℕ} {l2 : Link} → early ≡ 0 → a ≡ placedAnswer w p (length b) → b1 ≡ placedIn a b (bodyOf w p)
-      → a ≡ W.the-variants.Size len → kind ≡ kindOf w → b2 ≡ sealedOf l kind len b1 → l2 ≡ sentOf l kind 0
-      → (record { link = l2; answer = Written (len + 16) } ≡ messageStep l w p (length b)) × (b2 ≡ messageBuffer l w p b)
+  pub written-step : {a : W.Written} {len kind size : ℕ} {b1 b2 : List ℕ} {l2 : Link} → early ≡ 0 → a ≡ placedAnswer l w p (length b) → b1 ≡ placedIn a b (bodyOf w p)
+      → a ≡ W.the-variants.Size len → kind ≡ kindOf w → size ≡ sizeOf l len → b2 ≡ sealedOf l kind len b1 → l2 ≡ sentOf l kind 0 size
+      → (record { link = l2; answer = Written size } ≡ messageStep l w p (length b)) × (b2 ≡ messageBuffer l w p b)
   unfolding messageStep messageBuffer
-  written-step {a} {len} {kind} {b1} h e i f n s t =
-      let g = told w p (length b) e f in
-      let m : messageAnswer l w p (length b) ≡ Written (len + 16) = answered h e ∙ ap sentBy f in
+  written-step {a} {len} {kind} {size} {b1} h e i f n q s t =
+      let g = told l w p (length b) e f in
+      let m : messageAnswer l w p (length b) ≡ Written size = answered h e ∙ (ap (sentBy l) f ∙ ap Written (sym q)) in
       let there : b1 ≡ sets b 12 (bodyOf w p) = i ∙ ap (λ (x : W.Written). placedIn x b (bodyOf w p)) f in
       let s′ = s ∙ ap (λ (k : ℕ). sealedOf l k len b1) n in (
-        ap (λ (x : Link). record { link = x; answer = Written (len + 16) }) (t ∙ ap (λ (k : ℕ). sentOf l k 0) n) ∙ sym (ap (stepBy l (kindOf w) 0) m),
+        ap (λ (x : Link). record { link = x; answer = Written size }) (t ∙ ap (λ (k : ℕ). sentOf l k 0 size) n) ∙ sym (ap (stepBy l (kindOf w) 0) m),
         sealed-over l (kindOf w) len b (bodyOf w p) (g .0) (g .1) (g .2) there s′ ∙ sym (ap (bufferBy l (kindOf w) (bodyOf w p) b) m),
       )

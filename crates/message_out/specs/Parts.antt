@@ -10,6 +10,7 @@ use Rattle.wire.specs.Choice.{first}
 use Rattle.link_state.specs.declared.Link.{Link}
 use Rattle.packet.specs.Allowed.{refuses}
 use Rattle.body.specs.declared.Written as W
+use Rattle.packet_out.specs.Size.{sizeOf}
 use Rattle.send_rules.specs.Control.{sendRefusal}
 use Rattle.message_out.specs.Outgoing.{kindOf, bodyOf, wrongWay, numberZero, payloadMisread}
 use Rattle.message_out.specs.declared.Outgoing as O
@@ -40,13 +41,13 @@ withoutRoom (W.the-variants.Size k) = W.the-variants.Refused 16
 withoutRoom (W.the-variants.Refused k) = W.the-variants.Refused k
 
 -- the same of a body in its packet, "from byte 12 on", for which the buffer has so much room
-unfoldable pub placedAnswer : O.Outgoing → List ℕ → ℕ → W.Written
-placedAnswer w p room =
+unfoldable pub placedAnswer : Link → O.Outgoing → List ℕ → ℕ → W.Written
+placedAnswer l w p room =
     first (
     (numberZero w, W.the-variants.Refused 12) ∷
     (payloadMisread w p, W.the-variants.Refused 15) ∷
     (ltb 16777199 (length (bodyOf w p)), W.the-variants.Refused 2) ∷
-    (ltb room (length (bodyOf w p) + 16), W.the-variants.Refused 16) ∷
+    (ltb room (sizeOf l (length (bodyOf w p))), W.the-variants.Refused 16) ∷
     []
     ) (W.the-variants.Size (length (bodyOf w p)))
 

@@ -1,8 +1,9 @@
 // RPC messages through a link: one message as one packet, by value.
 //
-// The body goes straight into the lent buffer from byte 12 on, header and checksum around it; no byte is stored before the
-// size is known to fit, and a refusal leaves link and buffer as they were. Nothing here sends a Nonce, Handshake, Ping or
-// Pong: those are in the crates `nonce_out`, `handshake_out` and `keep_alive_out`. The type that matters is `Outgoing`.
+// The body goes straight into the lent buffer from byte 12 on, header and checksum around it; no byte is stored before
+// the size is known to fit, and a refusal leaves link and buffer as they were. Nothing here sends a Nonce, Handshake,
+// Ping or Pong: those are in the crates `nonce_out`, `handshake_out` and `keep_alive_out`. The type that matters is
+// `Outgoing`.
 mod early;
 mod place;
 mod step;

@@ -5,6 +5,7 @@ use crate::early::kind_of;
 use crate::place::place_body;
 use body::Written;
 use link_state::Link;
+use packet::tail;
 use packet_out::Sent;
 use packet_out::seal;
 use send_rules::Step;
@@ -25,16 +26,17 @@ pub fn message_step(link: Link, buf: &mut [u8], what: Outgoing, payload: &[u8]) 
             answer: Sent::Refused(early),
         };
     }
-    match place_body(buf, what, payload) {
+    match place_body(buf, link, what, payload) {
         Written::Refused(k) => Step {
             link,
             answer: Sent::Refused(k),
         },
         Written::Size(len) => {
             let kind = kind_of(what);
-            let size = len + 16;
+            let length = len + 16;
+            let size = length + tail(link, length);
             seal(buf, link, kind, len);
-            let next = sent(link, kind, 0);
+            let next = sent(link, kind, 0, size);
             Step {
                 link: next,
                 answer: Sent::Written(size),

@@ -78,7 +78,7 @@ pub fn nonce_step(link: Link, buf: &mut [u8], random: [u8; 16], moment: Moment) 
             put_nonce(buf, version(link), moment.time, random);
             seal(buf, link, NONCE, 60);
             Step {
-                link: sent(link, NONCE, 0),
+                link: sent(link, NONCE, 0, n),
                 answer: Sent::Written(n),
             }
         }

@@ -1,4 +1,5 @@
 -- Definitions of crate packet: what both directions share, and the body of an answer.
 pub mod Sum
 pub mod Allowed
+pub mod Padding
 pub mod Body

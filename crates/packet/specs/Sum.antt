@@ -12,6 +12,10 @@ use Rattle.link_state.specs.declared.Link.{Link}
 unfoldable pub castagnoliOf : Link → Bool
 castagnoliOf l = l .crc32c && leb 4 (l .stage)
 
--- the checksum of a packet's bytes before it, by the kind in use
+-- the checksum of a packet's bytes before it, by either kind
+abbrev pub sumAs : Bool → List ℕ → ℕ
+sumAs castagnoli s = pick castagnoli (crc (reflected Castagnoli) s) (crc (reflected Ieee) s)
+
+-- by the kind in use
 unfoldable pub sumOf : Link → List ℕ → ℕ
-sumOf l s = pick (castagnoliOf l) (crc (reflected Castagnoli) s) (crc (reflected Ieee) s)
+sumOf l s = sumAs (castagnoliOf l) s

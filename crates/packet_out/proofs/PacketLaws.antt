@@ -4,13 +4,13 @@ use mathlib.Core.Path.{_≡_, refl, ap, sym, _∙_}
 use mathlib.Core.List.{List, [], _∷_, _++_, append-assoc}
 use Prim.Native.Nat.{ℕ, suc, _+_, _≤_, _<_}
 use native.Mathlib.Nat.{add-suc, suc-add}
-use lib.ListN.{length, take, drop, set, length-append, length-take, length-drop, take-append-drop}
+use lib.ListN.{length, take, drop, set, replicate, length-append, length-take, length-drop, length-replicate, take-append-drop}
 use lib.Seq.{sets, sets-eq, take-at, drop-drop, drop-set-lt}
 use Rattle.wire.specs.Bytes.{part, bytes}
 use Rattle.wire.proofs.ByteLaws.{length-bytes}
-use Rattle.wire.proofs.StoreLaws.{runs-3}
+use Rattle.wire.proofs.StoreLaws.{runs-2, runs-3}
 use Rattle.link_state.specs.declared.Link.{Link}
-use Rattle.packet.specs.Sum.{sumOf}
+use Rattle.packet_out.specs.Size.{sizeOf}
 use Rattle.packet_out.specs.Packet.{headOf, frontOf, packetOf}
 
 pub length-head : (x y z : ℕ) → length (headOf x y z) ≡ 12
@@ -21,9 +21,9 @@ pub length-front : (l : Link) (kind : ℕ) (body : List ℕ) → length (frontOf
 unfolding frontOf
 length-front l kind body = simp (length-append, length-head) (omega arith)
 
-pub length-packet : (l : Link) (kind : ℕ) (body : List ℕ) → length (packetOf l kind body) ≡ length body + 16
-unfolding packetOf
-length-packet l kind body = simp (length-append, length-bytes, length-front) (omega arith)
+pub length-packet : (l : Link) (kind : ℕ) (body : List ℕ) → length (packetOf l kind body) ≡ sizeOf l (length body)
+unfolding packetOf sizeOf
+length-packet l kind body = simp (length-append, length-bytes, length-front, length-replicate) (omega arith)
 
 -- ---- stores at the front
 
@@ -32,6 +32,27 @@ pub head-stored : {b1 b2 b3 : List ℕ} (b : List ℕ) (x y z : ℕ) → b1 ≡ 
     → b3 ≡ sets b 0 (headOf x y z)
 unfolding headOf
 head-stored b x y z e1 e2 e3 = runs-3 b 0 4 8 (bytes 4 x) (bytes 4 y) (bytes 4 z) e1 e2 e3 (rw length-bytes refl) (rw length-bytes refl)
+
+-- no zero, one, two, three
+pub no-zeros : (b : List ℕ) (at n : ℕ) → n < 1 → b ≡ sets b at (replicate n 0)
+no-zeros b at n h = let e : 0 ≡ n = omega arith in ap (λ (k : ℕ). sets b at (replicate k 0)) e
+
+pub zeros-1 : {b1 : List ℕ} (b : List ℕ) (at n : ℕ) → 1 ≤ n → n < 2 → b1 ≡ sets b at (bytes 1 0) → b1 ≡ sets b at (replicate n 0)
+unfolding bytes
+zeros-1 b at n g h e1 = let e : 1 ≡ n = omega arith in e1 ∙ ap (λ (k : ℕ). sets b at (replicate k 0)) e
+
+pub zeros-2 : {b1 b2 : List ℕ} (b : List ℕ) (at n : ℕ) → 2 ≤ n → n < 3 → b1 ≡ sets b at (bytes 1 0) → b2 ≡ sets b1 (at + 1) (bytes 1 0) → b2 ≡ sets b at (replicate n 0)
+unfolding bytes
+zeros-2 b at n g h e1 e2 =
+    let e : 2 ≡ n = omega arith in
+    runs-2 b at (at + 1) (bytes 1 0) (bytes 1 0) e1 e2 refl ∙ ap (λ (k : ℕ). sets b at (replicate k 0)) e
+
+pub zeros-3 : {b1 b2 b3 : List ℕ} (b : List ℕ) (at n : ℕ) → 3 ≤ n → n ≤ 3 → b1 ≡ sets b at (bytes 1 0) → b2 ≡ sets b1 (at + 1) (bytes 1 0) → b3 ≡ sets b2 (at + 2) (bytes 1 0)
+    → b3 ≡ sets b at (replicate n 0)
+unfolding bytes
+zeros-3 b at n g h e1 e2 e3 =
+    let e : 3 ≡ n = omega arith in
+    runs-3 b at (at + 1) (at + 2) (bytes 1 0) (bytes 1 0) (bytes 1 0) e1 e2 e3 refl (omega arith) ∙ ap (λ (k : ℕ). sets b at (replicate k 0)) e
 
 -- what was stored, then the rest
 pub front-stored : (b xs : List ℕ) → length xs ≤ length b → sets b 0 xs ≡ xs ++ drop (length xs) b

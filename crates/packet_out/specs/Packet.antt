@@ -2,13 +2,14 @@
 -- checksum over all before it"). Assumes nothing.
 use Prim.Native.Nat.{ℕ, _+_}
 use mathlib.Core.List.{List, [], _∷_, _++_}
-use lib.ListN.{length}
+use lib.ListN.{length, replicate}
 use lib.Seq.{sets}
 use lib.Dec.{ltb}
 use Rattle.wire.specs.Bytes.{part, bytes}
 use Rattle.wire.specs.Choice.{first}
 use Rattle.link_state.specs.declared.Link.{Link}
 use Rattle.packet.specs.Sum.{sumOf}
+use Rattle.packet.specs.Padding.{tailOf}
 use Rattle.packet_out.specs.Size.{sizeOf}
 
 -- length, number, type
@@ -19,9 +20,11 @@ headOf size number kind = bytes 4 size ++ (bytes 4 number ++ bytes 4 kind)
 unfoldable pub frontOf : Link → ℕ → List ℕ → List ℕ
 frontOf l kind body = headOf (length body + 16) (l .sends) kind ++ body
 
--- a packet of a link, under the checksum in use and the next number
+-- a packet of a link, under the checksum in use and the next number; "zeros follow the checksum" where they do
+-- (document 02, A7)
 unfoldable pub packetOf : Link → ℕ → List ℕ → List ℕ
-packetOf l kind body = frontOf l kind body ++ bytes 4 (sumOf l (frontOf l kind body))
+packetOf l kind body =
+    frontOf l kind body ++ (bytes 4 (sumOf l (frontOf l kind body)) ++ replicate (tailOf l (length body + 16)) 0)
 
 -- a buffer that holds a body of so many bytes from byte 12 on, after it was sealed: "Bytes past the packet stay". One
 -- that has no room for the packet stays whole

@@ -36,7 +36,7 @@ use Rattle.pair.proofs.SumLaws.{small-bytes}
 use Rattle.pair.proofs.SentReceived.{sent-received}
 use Rattle.pair.proofs.StepAlike.{stays, awaits-again, awaits-still}
 use Rattle.pair.proofs.KeepAlive.{id-read, length-24, ping-allowed, pong-allowed}
-use Rattle.pair.proofs.KeptAlive.{ping-written, ping-heard, pong-written, pong-heard}
+use Rattle.pair.proofs.KeptAlive.{size-24, ping-written, ping-heard, pong-written, pong-heard}
 use Rattle.pair.proofs.Opening.{opened, each-awaits}
 
 -- ---- a send that is accepted was in turn
@@ -58,8 +58,8 @@ not-busy l kind busy len room n e = go (l .closed) (not (maySend (l .set .server
 
 -- the size that is answered
 size-is : (l : Link) (kind : ℕ) (busy : Bool) (room n : ℕ) → controlAnswer l kind busy 8 room ≡ Written n → n ≡ 24
-unfolding controlAnswer fitsOf sizeOf
-size-is l kind busy room n e = go (refuses (sendRefusal l kind busy)) (ltb room 24) e
+unfolding controlAnswer fitsOf
+size-is l kind busy room n e = go (refuses (sendRefusal l kind busy)) (ltb room 24) (rw (size-24 l) at e)
   where
     go : (r u : Bool) → pick r (Refused (sendRefusal l kind busy)) (pick u (Refused 16) (Written 24)) ≡ Written n → n ≡ 24
     go true u h = cc
@@ -78,14 +78,14 @@ owing-by l k l2 k2 a b c d o =
 
 module _ (l k : Link) (a : Alive l k) (m : Moment) where
   -- but for what they owe, they are as before
-  alive-by : (kind id : ℕ) (body : List ℕ) → allowedOf k kind ≡ true
-      → Owing (sentOf l kind id) (afterOf k kind body m) → Owing (afterOf k kind body m) (sentOf l kind id)
-      → Alive (sentOf l kind id) (afterOf k kind body m)
+  alive-by : (kind id n : ℕ) (body : List ℕ) → allowedOf k kind ≡ true
+      → Owing (sentOf l kind id n) (afterOf k kind body m) → Owing (afterOf k kind body m) (sentOf l kind id n)
+      → Alive (sentOf l kind id n) (afterOf k kind body m)
   unfolding sentOf afterOf
-  alive-by kind id body may there back =
+  alive-by kind id n body may there back =
       record {
-        there = awaits-again k l (a .open-k) (a .open-l) kind id body m may (a .there);
-        back = awaits-still k l (a .open-k) (a .open-l) kind id body m may (a .back);
+        there = awaits-again k l (a .open-k) (a .open-l) kind id n body m may (a .there);
+        back = awaits-still k l (a .open-k) (a .open-l) kind id n body m may (a .back);
         open-l = rw (stays (l .stage) (a .open-l)) (a .open-l);
         open-k = rw (stays (k .stage) (a .open-k)) (a .open-k);
         number-l = omega arith;
@@ -95,19 +95,19 @@ module _ (l k : Link) (a : Alive l k) (m : Moment) where
       }
 
   -- a packet of another type leaves what they owe
-  pub alive-after-message : (kind : ℕ) (body : List ℕ) → allowedOf k kind ≡ true → eqb kind 0x5730a2df ≡ false → eqb kind 0x8430eaa7 ≡ false
-      → Alive (sentOf l kind 0) (afterOf k kind body m)
+  pub alive-after-message : (kind n : ℕ) (body : List ℕ) → allowedOf k kind ≡ true → eqb kind 0x5730a2df ≡ false → eqb kind 0x8430eaa7 ≡ false
+      → Alive (sentOf l kind 0 n) (afterOf k kind body m)
   unfolding sentOf afterOf awaitsSent awaitedSent owesSent awaitsAfter owesAfter owedAfter
-  alive-after-message kind body may no-ping no-pong =
-      alive-by kind 0 body may
-      (owing-by l k (sentOf l kind 0) (afterOf k kind body m) (rw no-ping) (rw no-ping) (rw no-ping) (rw no-ping) (a .owing-k))
-      (owing-by k l (afterOf k kind body m) (sentOf l kind 0) (rw no-pong) refl (rw no-pong) refl (a .owing-l))
+  alive-after-message kind n body may no-ping no-pong =
+      alive-by kind 0 n body may
+      (owing-by l k (sentOf l kind 0 n) (afterOf k kind body m) (rw no-ping) (rw no-ping) (rw no-ping) (rw no-ping) (a .owing-k))
+      (owing-by k l (afterOf k kind body m) (sentOf l kind 0 n) (rw no-pong) refl (rw no-pong) refl (a .owing-l))
 
   -- a Ping that is written is received
   module _ (id : ℕ) (fits : id < 2 ^ 64) (b : List ℕ) (n : ℕ)
       (e : controlAnswer l 0x5730a2df (l .awaits) (length (bytes 8 id)) (length b) ≡ Written n) where
     pub ping-arrives : receiveOf k (pingBuffer l id b) m
-        ≡ gives (afterOf k 0x5730a2df (bytes 8 id) m) (Packet 0x5730a2df (length (bytes 8 id) + 16) 12 (length (bytes 8 id)))
+        ≡ gives (afterOf k 0x5730a2df (bytes 8 id) m) (Packet 0x5730a2df (sizeOf l (length (bytes 8 id))) 12 (length (bytes 8 id)))
     unfolding pingBuffer bodyRefusal pingRefusal
     ping-arrives =
         let free : k .owes ≡ false = a .owing-k .turn ∙ not-busy l 0x5730a2df (l .awaits) (length (bytes 8 id)) (length b) n e in
@@ -115,18 +115,18 @@ module _ (l k : Link) (a : Alive l k) (m : Moment) where
         sent-received l 0x5730a2df (l .awaits) (bytes 8 id) b k n e (a .there) (length-24 k (a .open-k) id)
         (ping-allowed k (a .open-k)) (a .number-l) (omega arith) (lit< tt) (small-bytes 8 id) m (simp (eight, free))
 
-    pub alive-after-ping : Alive (sentOf l 0x5730a2df id) (afterOf k 0x5730a2df (bytes 8 id) m)
+    pub alive-after-ping : Alive (sentOf l 0x5730a2df id n) (afterOf k 0x5730a2df (bytes 8 id) m)
     unfolding sentOf afterOf awaitsSent awaitedSent owesSent awaitsAfter owesAfter owedAfter
     alive-after-ping =
-        alive-by 0x5730a2df id (bytes 8 id) (ping-allowed k (a .open-k))
+        alive-by 0x5730a2df id n (bytes 8 id) (ping-allowed k (a .open-k))
         (record { turn = refl; id = λ q. sym (id-read id fits); fits = rw (id-read id fits) fits })
-        (owing-by k l (afterOf k 0x5730a2df (bytes 8 id) m) (sentOf l 0x5730a2df id) refl refl refl refl (a .owing-l))
+        (owing-by k l (afterOf k 0x5730a2df (bytes 8 id) m) (sentOf l 0x5730a2df id n) refl refl refl refl (a .owing-l))
 
   -- and so is a Pong
   module _ (b : List ℕ) (n : ℕ)
       (e : controlAnswer l 0x8430eaa7 (not (l .owes)) (length (bytes 8 (l .owed))) (length b) ≡ Written n) where
     pub pong-arrives : receiveOf k (pongBuffer l b) m
-        ≡ gives (afterOf k 0x8430eaa7 (bytes 8 (l .owed)) m) (Packet 0x8430eaa7 (length (bytes 8 (l .owed)) + 16) 12 (length (bytes 8 (l .owed))))
+        ≡ gives (afterOf k 0x8430eaa7 (bytes 8 (l .owed)) m) (Packet 0x8430eaa7 (sizeOf l (length (bytes 8 (l .owed)))) 12 (length (bytes 8 (l .owed))))
     unfolding pongBuffer bodyRefusal pongRefusal
     pong-arrives =
         let owes : l .owes ≡ true = not-false (l .owes) (not-busy l 0x8430eaa7 (not (l .owes)) (length (bytes 8 (l .owed))) (length b) n e) in
@@ -136,11 +136,11 @@ module _ (l k : Link) (a : Alive l k) (m : Moment) where
         sent-received l 0x8430eaa7 (not (l .owes)) (bytes 8 (l .owed)) b k n e (a .there) (length-24 k (a .open-k) (l .owed))
         (pong-allowed k (a .open-k)) (a .number-l) (omega arith) (lit< tt) (small-bytes 8 (l .owed)) m (simp (eight, waits, id-read (l .owed) (a .owing-l .fits), same, eq-eqb (l .owed) (l .owed) refl))
 
-    pub alive-after-pong : Alive (sentOf l 0x8430eaa7 0) (afterOf k 0x8430eaa7 (bytes 8 (l .owed)) m)
+    pub alive-after-pong : Alive (sentOf l 0x8430eaa7 0 n) (afterOf k 0x8430eaa7 (bytes 8 (l .owed)) m)
     unfolding sentOf afterOf awaitsSent awaitedSent owesSent awaitsAfter owesAfter owedAfter
     alive-after-pong =
-        alive-by 0x8430eaa7 0 (bytes 8 (l .owed)) (pong-allowed k (a .open-k))
-        (owing-by l k (sentOf l 0x8430eaa7 0) (afterOf k 0x8430eaa7 (bytes 8 (l .owed)) m) refl refl refl refl (a .owing-k))
+        alive-by 0x8430eaa7 0 n (bytes 8 (l .owed)) (pong-allowed k (a .open-k))
+        (owing-by l k (sentOf l 0x8430eaa7 0 n) (afterOf k 0x8430eaa7 (bytes 8 (l .owed)) m) refl refl refl refl (a .owing-k))
         (record { turn = refl; id = λ q. absurd (false≢true q); fits = a .owing-l .fits })
 
 -- ---- one call of l
@@ -170,7 +170,7 @@ module _ (l k : Link) (a : Alive l k) (o : Bool) (id : ℕ) (fits : id < 2 ^ 64)
       size-is l 0x5730a2df (l .awaits) (length b) n
       (ap (λ (i : ℕ). controlAnswer l 0x5730a2df (l .awaits) i (length b)) (sym eight) ∙ e) in
       let got = ping-arrives l k a m id fits b n e in (
-        ap (λ (r : Received). r .answer ∷ []) got ∙ rw (eight, z),
+        ap (λ (r : Received). r .answer ∷ []) got ∙ rw (eight, size-24 l, z),
         alive-at (ap (λ (x : Sent). stepBy l 0x5730a2df id x .link) e) (ap (λ (r : Received). r .link) got) (alive-after-ping l k a m id fits b n e),
       )
   ping-in-turn (Refused r) e = (refl, alive-at (ap (λ (x : Sent). stepBy l 0x5730a2df id x .link) e) refl a)
@@ -183,7 +183,7 @@ module _ (l k : Link) (a : Alive l k) (o : Bool) (id : ℕ) (fits : id < 2 ^ 64)
       size-is l 0x8430eaa7 (not (l .owes)) (length b) n
       (ap (λ (i : ℕ). controlAnswer l 0x8430eaa7 (not (l .owes)) i (length b)) (sym eight) ∙ e) in
       let got = pong-arrives l k a m b n e in (
-        ap (λ (r : Received). r .answer ∷ []) got ∙ rw (eight, z),
+        ap (λ (r : Received). r .answer ∷ []) got ∙ rw (eight, size-24 l, z),
         alive-at (ap (λ (x : Sent). stepBy l 0x8430eaa7 0 x .link) e) (ap (λ (r : Received). r .link) got) (alive-after-pong l k a m b n e),
       )
   pong-in-turn (Refused r) e = (refl, alive-at (ap (λ (x : Sent). stepBy l 0x8430eaa7 0 x .link) e) refl a)
@@ -240,7 +240,7 @@ in-turn l k (c ∷ cs) a ok = go (c .ours) (λ l2 k2 a2. in-turn l2 k2 cs a2 (ok
 module _ (l k : Link) (a : Alive l k) (id : ℕ) (fits : id < 2 ^ 64) (rest : l .awaits ≡ false)
     (b1 b2 : List ℕ) (room1 : 24 ≤ length b1) (room2 : 24 ≤ length b2) (m1 m2 : Moment) where
   abbrev l1 : Link
-  l1 = sentOf l 0x5730a2df id
+  l1 = sentOf l 0x5730a2df id 24
 
   abbrev k1 : Link
   k1 = afterOf k 0x5730a2df (bytes 8 id) m1
@@ -251,13 +251,13 @@ module _ (l k : Link) (a : Alive l k) (id : ℕ) (fits : id < 2 ^ 64) (rest : l 
   sent1 : pingStep l id (length b1) ≡ record { link = l1; answer = Written 24 }
   sent1 = ping-written l k (a .there) (a .back) (a .open-l) (a .open-k) (a .number-l) (a .number-k) id fits rest free b1 b2 room1 room2 m1 m2
 
-  sent2 : pongStep k1 (length b2) ≡ record { link = sentOf k1 0x8430eaa7 0; answer = Written 24 }
+  sent2 : pongStep k1 (length b2) ≡ record { link = sentOf k1 0x8430eaa7 0 24; answer = Written 24 }
   sent2 = pong-written l k (a .there) (a .back) (a .open-l) (a .open-k) (a .number-l) (a .number-k) id fits rest free b1 b2 room1 room2 m1 m2
 
   whole : exchangeOf l k id b1 b2 m1 m2
       ≡ record {
         pinger = afterOf l1 0x8430eaa7 (bytes 8 (k1 .owed)) m2;
-        ponger = sentOf k1 0x8430eaa7 0;
+        ponger = sentOf k1 0x8430eaa7 0 24;
         sent = Written 24 ∷ Written 24 ∷ [];
         received = Packet 0x5730a2df 24 12 8 ∷ Packet 0x8430eaa7 24 12 8 ∷ [];
       }
@@ -274,7 +274,7 @@ module _ (l k : Link) (a : Alive l k) (id : ℕ) (fits : id < 2 ^ 64) (rest : l 
   unfolding pingStep controlStep
   alive1 = alive-after-ping l k a m1 id fits b1 24 (sym (step-answer l 0x5730a2df id _) ∙ ap (λ (x : Step). x .answer) sent1)
 
-  alive2 : Alive (sentOf k1 0x8430eaa7 0) (afterOf l1 0x8430eaa7 (bytes 8 (k1 .owed)) m2)
+  alive2 : Alive (sentOf k1 0x8430eaa7 0 24) (afterOf l1 0x8430eaa7 (bytes 8 (k1 .owed)) m2)
   unfolding pongStep controlStep
   alive2 = alive-after-pong k1 l1 (flipped l1 k1 alive1) m2 b2 24 (sym (step-answer k1 0x8430eaa7 0 _) ∙ ap (λ (x : Step). x .answer) sent2)
 
@@ -288,29 +288,29 @@ module _ (l k : Link) (a : Alive l k) (id : ℕ) (fits : id < 2 ^ 64) (rest : l 
         arrived = refl;
         answered = refl;
         settled = refl;
-        alive = flipped (sentOf k1 0x8430eaa7 0) (afterOf l1 0x8430eaa7 (bytes 8 (k1 .owed)) m2) alive2;
+        alive = flipped (sentOf k1 0x8430eaa7 0 24) (afterOf l1 0x8430eaa7 (bytes 8 (k1 .owed)) m2) alive2;
       })
 
 -- ---- from the opening on
 
-module _ (oc os : Bool) (lc ls : ℕ) (low-c : lc ≤ 2) (low-s : ls ≤ 2) (c s : Caller)
+module _ (oc os pad : Bool) (lc ls : ℕ) (low-c : lc ≤ 2) (low-s : ls ≤ 2) (c s : Caller)
     (b1 b2 b3 b4 : List ℕ) (m3 m4 : Moment) (g : Able c s b1 b2 b3 b4) where
   -- the exchange of a fresh client and a fresh server
   abbrev o : Opened
-  o = opens (freshOf (record { server = false; allows = oc; lowest = lc })) (freshOf (record { server = true; allows = os; lowest = ls })) c s b1 b2 b3 b4 m3 m4
+  o = opens (freshOf (record { server = false; allows = oc; lowest = lc; padded = pad })) (freshOf (record { server = true; allows = os; lowest = ls; padded = pad })) c s b1 b2 b3 b4 m3 m4
 
-  abbrev client-is : o .client ≡ during (record { server = false; allows = oc; lowest = lc }) (oc && os) 2 4 0 0
-  client-is = opened oc os lc ls low-c low-s c s b1 b2 b3 b4 m3 m4 g .0
+  abbrev client-is : o .client ≡ during (record { server = false; allows = oc; lowest = lc; padded = pad }) (oc && os) 2 4 (pick pad 3 0) 0 0
+  client-is = opened oc os pad lc ls low-c low-s c s b1 b2 b3 b4 m3 m4 g .0
 
-  abbrev server-is : o .server ≡ during (record { server = true; allows = os; lowest = ls }) (oc && os) 2 4 0 0
-  server-is = opened oc os lc ls low-c low-s c s b1 b2 b3 b4 m3 m4 g .1
+  abbrev server-is : o .server ≡ during (record { server = true; allows = os; lowest = ls; padded = pad }) (oc && os) 2 4 (pick pad 3 0) 0 0
+  server-is = opened oc os pad lc ls low-c low-s c s b1 b2 b3 b4 m3 m4 g .1
 
   -- two fresh links that open are alive, and neither awaits a Pong
   pub alive-after-opening : Alive (o .client) (o .server) × ((o .client .awaits ≡ false) × (o .server .awaits ≡ false))
   alive-after-opening = (
     record {
-      there = each-awaits oc os lc ls low-c low-s c s b1 b2 b3 b4 m3 m4 g .1;
-      back = each-awaits oc os lc ls low-c low-s c s b1 b2 b3 b4 m3 m4 g .0;
+      there = each-awaits oc os pad lc ls low-c low-s c s b1 b2 b3 b4 m3 m4 g .1;
+      back = each-awaits oc os pad lc ls low-c low-s c s b1 b2 b3 b4 m3 m4 g .0;
       open-l = rw client-is (lit≤ tt);
       open-k = rw server-is (lit≤ tt);
       number-l = rw client-is (lit< tt);

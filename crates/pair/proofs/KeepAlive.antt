@@ -15,6 +15,7 @@ use Rattle.link_state.specs.declared.Moment.{Moment}
 use Rattle.packet.specs.Allowed.{allowedOf}
 use Rattle.packet_in.specs.Head.{lengthRefusal}
 use Rattle.packet.specs.declared.Arrival.the-variants.{Packet}
+use Rattle.packet_out.specs.Size.{sizeOf}
 use Rattle.packet_out.specs.Packet.{packetOf}
 use Rattle.link.specs.KeepAlive.{pingRefusal, pongRefusal, awaitsAfter, owesAfter, owedAfter}
 use Rattle.link.specs.Next.{afterOf}
@@ -52,7 +53,7 @@ module _ (k : Link) (over : 4 ≤ k .stage) where
 module _ (k l : Link) (a : Awaits k l) (over : 4 ≤ k .stage) (number : l .sends < 2 ^ 32) (rest : List ℕ) (m : Moment) where
   -- a Ping that is the first unanswered one is received, and its ID is owed
   pub ping-received : (id : ℕ) → id < 2 ^ 64 → k .owes ≡ false
-      → (receiveOf k (packetOf l 0x5730a2df (bytes 8 id) ++ rest) m ≡ gives (afterOf k 0x5730a2df (bytes 8 id) m) (Packet 0x5730a2df (length (bytes 8 id) + 16) 12 (length (bytes 8 id))))
+      → (receiveOf k (packetOf l 0x5730a2df (bytes 8 id) ++ rest) m ≡ gives (afterOf k 0x5730a2df (bytes 8 id) m) (Packet 0x5730a2df (sizeOf l (length (bytes 8 id))) 12 (length (bytes 8 id))))
       × ((afterOf k 0x5730a2df (bytes 8 id) m .owes ≡ true) × (afterOf k 0x5730a2df (bytes 8 id) m .owed ≡ id))
   unfolding bodyRefusal pingRefusal afterOf owesAfter owedAfter
   ping-received id fits free =
@@ -64,7 +65,7 @@ module _ (k l : Link) (a : Awaits k l) (over : 4 ≤ k .stage) (number : l .send
   -- the Pong that answers our Ping is received, and none is awaited any more
   pub pong-received : l .owed < 2 ^ 64 → k .awaits ≡ true → k .awaited ≡ l .owed
       → (receiveOf k (packetOf l 0x8430eaa7 (bytes 8 (l .owed)) ++ rest) m
-      ≡ gives (afterOf k 0x8430eaa7 (bytes 8 (l .owed)) m) (Packet 0x8430eaa7 (length (bytes 8 (l .owed)) + 16) 12 (length (bytes 8 (l .owed)))))
+      ≡ gives (afterOf k 0x8430eaa7 (bytes 8 (l .owed)) m) (Packet 0x8430eaa7 (sizeOf l (length (bytes 8 (l .owed)))) 12 (length (bytes 8 (l .owed)))))
       × (afterOf k 0x8430eaa7 (bytes 8 (l .owed)) m .awaits ≡ false)
   unfolding bodyRefusal pongRefusal afterOf awaitsAfter
   pong-received fits waits same =

@@ -14,6 +14,7 @@ use Rattle.link_state.specs.declared.Link.{Link}
 use Rattle.link_state.specs.declared.Moment.{Moment}
 use Rattle.link_state.specs.Turn.{maySend, stageAfter}
 use Rattle.packet.specs.Allowed.{allowedOf}
+use Rattle.packet.specs.Padding.{padsOf, tailOf}
 use Rattle.packet.specs.declared.Arrival.the-variants.{Packet}
 use Rattle.packet_out.specs.Packet.{packetOf}
 use Rattle.packet_out.specs.Size.{sizeOf, fitsOf}
@@ -30,6 +31,15 @@ use Rattle.pair.specs.Awaits.{Awaits}
 use Rattle.pair.proofs.StepAlike.{awaits-again, awaits-still}
 use Rattle.pair.proofs.KeepAlive.{ping-allowed, pong-allowed, ping-received, pong-received}
 
+-- 8 bytes make a packet of 24, whole words on every link
+pub size-24 : (l : Link) → sizeOf l 8 ≡ 24
+unfolding sizeOf tailOf
+size-24 l = go (padsOf l)
+  where
+    go : (b : Bool) → 24 + pick b 0 0 ≡ 24
+    go true = refl
+    go false = refl
+
 -- a link whose turn to receive it is, is not closed
 not-closed : (l : Link) → turnRefusal l ≡ 0 → l .closed ≡ false
 unfolding turnRefusal
@@ -43,29 +53,29 @@ not-closed l e = go (l .closed) refl e
 module _ (l : Link) (kind : ℕ) (busy : Bool) (body : List ℕ) (id : ℕ) (b : List ℕ) (n : length body ≡ 8) (turn : turnRefusal l ≡ 0) (over : 4 ≤ l .stage)
     (may : allowedOf l kind ≡ true) (free : busy ≡ false) (room : 24 ≤ length b) where
   written : controlAnswer l kind busy (length body) (length b) ≡ Written 24
-  unfolding controlAnswer sendRefusal maySend fitsOf sizeOf
-  written = simp (n, not-closed l turn, le-leb 4 (l .stage) over, may, free, le-ltb (length b) 24 room)
+  unfolding controlAnswer sendRefusal maySend fitsOf
+  written = simp (n, size-24 l, not-closed l turn, le-leb 4 (l .stage) over, may, free, le-ltb (length b) 24 room)
 
-  step-is : controlStep l kind busy body id (length b) ≡ record { link = sentOf l kind id; answer = Written 24 }
+  step-is : controlStep l kind busy body id (length b) ≡ record { link = sentOf l kind id 24; answer = Written 24 }
   unfolding controlStep
   step-is = ap (stepBy l kind id) written
 
   buffer-is : controlBuffer l kind busy body b ≡ packetOf l kind body ++ drop (length (packetOf l kind body)) b
   unfolding controlBuffer
   buffer-is =
-      let p : length (packetOf l kind body) ≡ length body + 16 = length-packet l kind body in
+      let p : length (packetOf l kind body) ≡ 24 = length-packet l kind body ∙ (ap (sizeOf l) n ∙ size-24 l) in
       ap (bufferBy l kind body b) written ∙ front-stored b (packetOf l kind body) (omega arith)
 
 module _ (l k : Link) (there : Awaits k l) (back : Awaits l k) (over-l : 4 ≤ l .stage) (over-k : 4 ≤ k .stage) (number-l : l .sends < 2 ^ 32) (number-k : k .sends < 2 ^ 32)
     (id : ℕ) (fits : id < 2 ^ 64) (rest : l .awaits ≡ false) (free : k .owes ≡ false) (b1 b2 : List ℕ) (room1 : 24 ≤ length b1) (room2 : 24 ≤ length b2) (m1 m2 : Moment) where
   abbrev l1 : Link
-  l1 = sentOf l 0x5730a2df id
+  l1 = sentOf l 0x5730a2df id 24
 
   abbrev k1 : Link
   k1 = afterOf k 0x5730a2df (bytes 8 id) m1
 
   abbrev k2 : Link
-  k2 = sentOf k1 0x8430eaa7 0
+  k2 = sentOf k1 0x8430eaa7 0 24
 
   abbrev l2 : Link
   l2 = afterOf l1 0x8430eaa7 (bytes 8 (k1 .owed)) m2
@@ -88,7 +98,8 @@ module _ (l k : Link) (there : Awaits k l) (back : Awaits l k) (over-l : 4 ≤ l
   ping-heard =
       ap (λ (s : List ℕ). receiveOf k s m1) (buffer-is l 0x5730a2df (l .awaits) (bytes 8 id) id b1 (eight id) (back .turn) over-l (ping-allowed l over-l) rest room1)
       ∙ (ping-received k l there over-k number-l (drop (length (packetOf l 0x5730a2df (bytes 8 id))) b1) m1 id fits free .0
-      ∙ ap (λ (n : ℕ). gives k1 (Packet 0x5730a2df (n + 16) 12 n)) (eight id))
+      ∙ ap (λ (n : ℕ). gives k1 (Packet 0x5730a2df (sizeOf l n) 12 n)) (eight id)
+      ∙ ap (λ (n : ℕ). gives k1 (Packet 0x5730a2df n 12 8)) (size-24 l))
 
   owes : k1 .owes ≡ true
   unfolding afterOf owesAfter
@@ -98,10 +109,10 @@ module _ (l k : Link) (there : Awaits k l) (back : Awaits l k) (over-l : 4 ≤ l
   owed = ping-received k l there over-k number-l b1 m1 id fits free .1 .1
 
   there1 : Awaits k1 l1
-  there1 = awaits-again k l over-k over-l 0x5730a2df id (bytes 8 id) m1 (ping-allowed k over-k) there
+  there1 = awaits-again k l over-k over-l 0x5730a2df id 24 (bytes 8 id) m1 (ping-allowed k over-k) there
 
   back1 : Awaits l1 k1
-  back1 = awaits-still k l over-k over-l 0x5730a2df id (bytes 8 id) m1 (ping-allowed k over-k) back
+  back1 = awaits-still k l over-k over-l 0x5730a2df id 24 (bytes 8 id) m1 (ping-allowed k over-k) back
 
   over-l1 : 4 ≤ l1 .stage
   unfolding sentOf
@@ -135,7 +146,8 @@ module _ (l k : Link) (there : Awaits k l) (back : Awaits l k) (over-l : 4 ≤ l
       ap (λ (s : List ℕ). receiveOf l1 s m2)
       (buffer-is k1 0x8430eaa7 (not (k1 .owes)) (bytes 8 (k1 .owed)) 0 b2 (eight (k1 .owed)) (there1 .turn) over-k1 (pong-allowed k1 over-k1) (ap not owes) room2)
       ∙ (pong-received l1 k1 back1 over-l1 number-k1 (drop (length (packetOf k1 0x8430eaa7 (bytes 8 (k1 .owed)))) b2) m2 (rw owed fits) waits awaited .0
-      ∙ ap (λ (n : ℕ). gives l2 (Packet 0x8430eaa7 (n + 16) 12 n)) (eight (k1 .owed)))
+      ∙ ap (λ (n : ℕ). gives l2 (Packet 0x8430eaa7 (sizeOf k1 n) 12 n)) (eight (k1 .owed))
+      ∙ ap (λ (n : ℕ). gives l2 (Packet 0x8430eaa7 n 12 8)) (size-24 k1))
 
   -- KEPT ALIVE: no Ping is unanswered and no Pong is owed, and each waits for the other's next packet
   pub at-rest : ((l2 .awaits ≡ false) × (k2 .owes ≡ false)) × (Awaits k2 l2 × Awaits l2 k2)
@@ -143,7 +155,7 @@ module _ (l k : Link) (there : Awaits k l) (back : Awaits l k) (over-l : 4 ≤ l
   at-rest = (
     (refl, refl),
     (
-      awaits-still l1 k1 over-l1 over-k1 0x8430eaa7 0 (bytes 8 (k1 .owed)) m2 (pong-allowed l1 over-l1) there1,
-      awaits-again l1 k1 over-l1 over-k1 0x8430eaa7 0 (bytes 8 (k1 .owed)) m2 (pong-allowed l1 over-l1) back1,
+      awaits-still l1 k1 over-l1 over-k1 0x8430eaa7 0 24 (bytes 8 (k1 .owed)) m2 (pong-allowed l1 over-l1) there1,
+      awaits-again l1 k1 over-l1 over-k1 0x8430eaa7 0 24 (bytes 8 (k1 .owed)) m2 (pong-allowed l1 over-l1) back1,
     ),
   )

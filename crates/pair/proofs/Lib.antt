@@ -1,5 +1,6 @@
 -- Theorems on two links.
 pub mod SumLaws
+pub mod Words
 pub mod RoundTrip
 pub mod SentReceived
 pub mod StepAlike

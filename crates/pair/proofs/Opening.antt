@@ -20,6 +20,7 @@ use Rattle.link_state.proofs.SetUpLaws.{set-up-takes}
 use Rattle.link_state.specs.Turn.{maySend, stageAfter}
 use Rattle.packet.specs.Sum.{castagnoliOf}
 use Rattle.packet.specs.Allowed.{allowedOf}
+use Rattle.packet.specs.Padding.{paddedOf, padsOf, tailOf, phaseAfter}
 use Rattle.packet_in.specs.Head.{lengthRefusal}
 use Rattle.packet.specs.declared.Arrival.the-variants.{Packet}
 use Rattle.packet_out.specs.Size.{sizeOf, fitsOf}
@@ -162,13 +163,13 @@ module _ (flag : Bool) (s p : NetPid) where
 -- ---- the four packets
 
 -- a packet of the opening, with a body of n bytes and room for it
-module _ (l k : Link) (kind : ℕ) (body b : List ℕ) (n : ℕ) (is : length body ≡ n) (short : n < 1000) (room : n + 16 ≤ length b) (may-send : sendRefusal l kind false ≡ 0) where
+module _ (l k : Link) (kind : ℕ) (body b : List ℕ) (n : ℕ) (is : length body ≡ n) (short : n < 1000) (room : n + 16 ≤ length b) (may-send : sendRefusal l kind false ≡ 0) (size : sizeOf l n ≡ n + 16) where
   -- the send call is accepted
   written : controlAnswer l kind false (length body) (length b) ≡ Written (n + 16)
-  unfolding controlAnswer fitsOf sizeOf
-  written = simp (is, may-send, le-ltb 16777199 n (omega arith), le-ltb (length b) (n + 16) room)
+  unfolding controlAnswer fitsOf
+  written = simp (is, may-send, size, le-ltb 16777199 n (omega arith), le-ltb (length b) (n + 16) room)
 
-  sends : controlStep l kind false body 0 (length b) ≡ record { link = sentOf l kind 0; answer = Written (n + 16) }
+  sends : controlStep l kind false body 0 (length b) ≡ record { link = sentOf l kind 0 (n + 16); answer = Written (n + 16) }
   unfolding controlStep
   sends = ap (stepBy l kind 0) written
 
@@ -177,38 +178,44 @@ module _ (l k : Link) (kind : ℕ) (body b : List ℕ) (n : ℕ) (is : length bo
       → receiveOf k (controlBuffer l kind false body b) m ≡ gives (afterOf k kind body m) (Packet kind (n + 16) 12 n)
   receives m a len may number kind-fits g ok =
       sent-received l kind false body b k (n + 16) written a (ap (λ (x : ℕ). lengthRefusal k (x + 16)) is ∙ len) may number (omega arith) kind-fits g m ok
-      ∙ ap (λ (x : ℕ). gives (afterOf k kind body m) (Packet kind (x + 16) 12 x)) is
+      ∙ (ap (λ (x : ℕ). gives (afterOf k kind body m) (Packet kind (sizeOf l x) 12 x)) is
+      ∙ ap (λ (x : ℕ). gives (afterOf k kind body m) (Packet kind x 12 n)) size)
 
-module _ (oc os : Bool) (lc ls : ℕ) (low-c : lc ≤ 2) (low-s : ls ≤ 2) (c s : Caller) (b1 b2 b3 b4 : List ℕ) (m3 m4 : Moment) (g : Able c s b1 b2 b3 b4) where
+-- a Handshake of 44 bytes is whole words
+hand-size : (p : Bool) → 44 + pick p 0 0 ≡ 44
+hand-size true = refl
+hand-size false = refl
+
+module _ (oc os pad : Bool) (lc ls : ℕ) (low-c : lc ≤ 2) (low-s : ls ≤ 2) (c s : Caller) (b1 b2 b3 b4 : List ℕ) (m3 m4 : Moment) (g : Able c s b1 b2 b3 b4) where
   abbrev C : Settings
-  C = record { server = false; allows = oc; lowest = lc }
+  C = record { server = false; allows = oc; lowest = lc; padded = pad }
 
   abbrev S : Settings
-  S = record { server = true; allows = os; lowest = ls }
+  S = record { server = true; allows = os; lowest = ls; padded = pad }
 
   abbrev c0 : Link
-  c0 = during C false 0 0 4294967294 4294967294
+  c0 = during C false 0 0 0 4294967294 4294967294
 
   abbrev s0 : Link
-  s0 = during S false 0 0 4294967294 4294967294
+  s0 = during S false 0 0 0 4294967294 4294967294
 
   abbrev c1 : Link
-  c1 = during C false 0 1 4294967295 4294967294
+  c1 = during C false 0 1 0 4294967295 4294967294
 
   abbrev s1 : Link
-  s1 = during S false 2 1 4294967294 4294967295
+  s1 = during S false 2 1 0 4294967294 4294967295
 
   abbrev s2 : Link
-  s2 = during S false 2 2 4294967295 4294967295
+  s2 = during S false 2 2 0 4294967295 4294967295
 
   abbrev c2 : Link
-  c2 = during C false 2 2 4294967295 4294967295
+  c2 = during C false 2 2 0 4294967295 4294967295
 
   abbrev c3 : Link
-  c3 = during C false 2 3 0 4294967295
+  c3 = during C false 2 3 (pick pad 3 0) 0 4294967295
 
   abbrev s3 : Link
-  s3 = during S (os && oc) 2 3 4294967295 0
+  s3 = during S (os && oc) 2 3 0 4294967295 0
 
   abbrev nonceC : List ℕ
   nonceC = nonceBody 2 (c .told .time) (c .random)
@@ -218,53 +225,53 @@ module _ (oc os : Bool) (lc ls : ℕ) (low-c : lc ≤ 2) (low-s : ls ≤ 2) (c s
 
   -- the client's Nonce
   sent1 : nonceStep c0 (c .random) (c .told) (length b1) ≡ record { link = c1; answer = Written 76 }
-  unfolding nonceStep versionOf sendRefusal maySend allowedOf sentOf stageAfter awaitsSent awaitedSent owesSent
-  sent1 = sends c0 s0 0x7acb87aa nonceC b1 60 (length-nonce 2 _ (c .random) (g .client-random)) (lit< tt) (g .room1) refl
+  unfolding nonceStep versionOf sendRefusal maySend allowedOf sentOf stageAfter awaitsSent awaitedSent owesSent sizeOf tailOf padsOf paddedOf phaseAfter
+  sent1 = sends c0 s0 0x7acb87aa nonceC b1 60 (length-nonce 2 _ (c .random) (g .client-random)) (lit< tt) (g .room1) refl refl
 
   got1 : receiveOf s0 (nonceBuffer c0 (c .random) (c .told) b1) (s .heard) ≡ gives s1 (Packet 0x7acb87aa 76 12 60)
-  unfolding nonceBuffer castagnoliOf turnRefusal sendRefusal maySend lengthRefusal allowedOf bodyRefusal afterOf agreedAfter versionAfter stageAfter awaitsAfter owesAfter owedAfter versionOf
+  unfolding nonceBuffer castagnoliOf turnRefusal sendRefusal maySend lengthRefusal allowedOf bodyRefusal afterOf agreedAfter versionAfter stageAfter awaitsAfter owesAfter owedAfter versionOf sizeOf tailOf padsOf paddedOf
   got1 =
-      receives c0 s0 0x7acb87aa nonceC b1 60 (length-nonce 2 _ (c .random) (g .client-random)) (lit< tt) (g .room1) refl (s .heard)
-      (record { number = refl; checksum = refl; turn = refl }) refl refl (lit< tt) (lit< tt) (small-nonce 2 (c .told .time) (c .random) (g .client-bytes))
+      receives c0 s0 0x7acb87aa nonceC b1 60 (length-nonce 2 _ (c .random) (g .client-random)) (lit< tt) (g .room1) refl refl (s .heard)
+      (record { number = refl; checksum = refl; stage = refl; profile = refl; turn = refl }) refl refl (lit< tt) (lit< tt) (small-nonce 2 (c .told .time) (c .random) (g .client-bytes))
       (nonce-passes 2 (c .told .time) (c .random) S (s .heard) (g .client-random) (omega arith) low-s (g .client-clock) (near (c .told .time) (s .heard .time) (g .client-not-ahead) (g .client-not-behind)))
       ∙ rw (nonce-version 2 (c .told .time) (c .random) (lit< tt))
 
   -- the server's Nonce
   sent2 : nonceStep s1 (s .random) (s .told) (length b2) ≡ record { link = s2; answer = Written 76 }
-  unfolding nonceStep versionOf sendRefusal maySend allowedOf sentOf stageAfter awaitsSent awaitedSent owesSent
-  sent2 = sends s1 c1 0x7acb87aa nonceS b2 60 (length-nonce 2 _ (s .random) (g .server-random)) (lit< tt) (g .room2) refl
+  unfolding nonceStep versionOf sendRefusal maySend allowedOf sentOf stageAfter awaitsSent awaitedSent owesSent sizeOf tailOf padsOf paddedOf phaseAfter
+  sent2 = sends s1 c1 0x7acb87aa nonceS b2 60 (length-nonce 2 _ (s .random) (g .server-random)) (lit< tt) (g .room2) refl refl
 
   got2 : receiveOf c1 (nonceBuffer s1 (s .random) (s .told) b2) (c .heard) ≡ gives c2 (Packet 0x7acb87aa 76 12 60)
-  unfolding nonceBuffer castagnoliOf turnRefusal sendRefusal maySend lengthRefusal allowedOf bodyRefusal afterOf agreedAfter versionAfter stageAfter awaitsAfter owesAfter owedAfter versionOf
+  unfolding nonceBuffer castagnoliOf turnRefusal sendRefusal maySend lengthRefusal allowedOf bodyRefusal afterOf agreedAfter versionAfter stageAfter awaitsAfter owesAfter owedAfter versionOf sizeOf tailOf padsOf paddedOf
   got2 =
-      receives s1 c1 0x7acb87aa nonceS b2 60 (length-nonce 2 _ (s .random) (g .server-random)) (lit< tt) (g .room2) refl (c .heard)
-      (record { number = refl; checksum = refl; turn = refl }) refl refl (lit< tt) (lit< tt) (small-nonce 2 (s .told .time) (s .random) (g .server-bytes))
+      receives s1 c1 0x7acb87aa nonceS b2 60 (length-nonce 2 _ (s .random) (g .server-random)) (lit< tt) (g .room2) refl refl (c .heard)
+      (record { number = refl; checksum = refl; stage = refl; profile = refl; turn = refl }) refl refl (lit< tt) (lit< tt) (small-nonce 2 (s .told .time) (s .random) (g .server-bytes))
       (nonce-passes 2 (s .told .time) (s .random) C (c .heard) (g .server-random) (omega arith) low-c (g .server-clock) (near (s .told .time) (c .heard .time) (g .server-not-ahead) (g .server-not-behind)))
       ∙ rw (nonce-version 2 (s .told .time) (s .random) (lit< tt))
 
   -- the client's Handshake
   sent3 : handshakeStep c2 (c .pid) (s .pid) (length b3) ≡ record { link = c3; answer = Written 44 }
-  unfolding handshakeStep flagsOf sendRefusal maySend allowedOf sentOf stageAfter awaitsSent awaitedSent owesSent
-  sent3 = sends c2 s2 0x7682eef5 (hand oc (c .pid) (s .pid)) b3 28 (length-handshake _ (c .pid) (s .pid)) (lit< tt) (g .room3) refl
+  unfolding handshakeStep flagsOf sendRefusal maySend allowedOf sentOf stageAfter awaitsSent awaitedSent owesSent sizeOf tailOf padsOf paddedOf phaseAfter
+  sent3 = sends c2 s2 0x7682eef5 (hand oc (c .pid) (s .pid)) b3 28 (length-handshake _ (c .pid) (s .pid)) (lit< tt) (g .room3) refl (hand-size pad)
 
   got3 : receiveOf s2 (handshakeBuffer c2 (c .pid) (s .pid) b3) m3 ≡ gives s3 (Packet 0x7682eef5 44 12 28)
-  unfolding handshakeBuffer castagnoliOf turnRefusal sendRefusal maySend lengthRefusal allowedOf bodyRefusal afterOf agreedAfter versionAfter stageAfter awaitsAfter owesAfter owedAfter flagsOf
+  unfolding handshakeBuffer castagnoliOf turnRefusal sendRefusal maySend lengthRefusal allowedOf bodyRefusal afterOf agreedAfter versionAfter stageAfter awaitsAfter owesAfter owedAfter flagsOf sizeOf tailOf padsOf paddedOf
   got3 =
-      receives c2 s2 0x7682eef5 (hand oc (c .pid) (s .pid)) b3 28 (length-handshake _ (c .pid) (s .pid)) (lit< tt) (g .room3) refl m3
-      (record { number = refl; checksum = refl; turn = refl }) refl refl (lit< tt) (lit< tt) (small-hand oc (c .pid) (s .pid))
+      receives c2 s2 0x7682eef5 (hand oc (c .pid) (s .pid)) b3 28 (length-handshake _ (c .pid) (s .pid)) (lit< tt) (g .room3) refl (hand-size pad) m3
+      (record { number = refl; checksum = refl; stage = refl; profile = refl; turn = refl }) refl refl (lit< tt) (lit< tt) (small-hand oc (c .pid) (s .pid))
       (hand-passes oc (c .pid) (s .pid) S refl)
       ∙ rw (hand-flag oc (c .pid) (s .pid))
 
   -- the server's Handshake, still under CRC-32
-  sent4 : handshakeStep s3 (s .pid) (c .pid) (length b4) ≡ record { link = during S (os && oc) 2 4 0 0; answer = Written 44 }
-  unfolding handshakeStep flagsOf sendRefusal maySend allowedOf sentOf stageAfter awaitsSent awaitedSent owesSent
-  sent4 = sends s3 c3 0x7682eef5 (hand (os && oc) (s .pid) (c .pid)) b4 28 (length-handshake _ (s .pid) (c .pid)) (lit< tt) (g .room4) refl
+  sent4 : handshakeStep s3 (s .pid) (c .pid) (length b4) ≡ record { link = during S (os && oc) 2 4 (pick pad 3 0) 0 0; answer = Written 44 }
+  unfolding handshakeStep flagsOf sendRefusal maySend allowedOf sentOf stageAfter awaitsSent awaitedSent owesSent sizeOf tailOf padsOf paddedOf phaseAfter
+  sent4 = sends s3 c3 0x7682eef5 (hand (os && oc) (s .pid) (c .pid)) b4 28 (length-handshake _ (s .pid) (c .pid)) (lit< tt) (g .room4) refl (hand-size pad)
 
-  got4 : receiveOf c3 (handshakeBuffer s3 (s .pid) (c .pid) b4) m4 ≡ gives (during C (oc && (os && oc)) 2 4 0 0) (Packet 0x7682eef5 44 12 28)
-  unfolding handshakeBuffer castagnoliOf turnRefusal sendRefusal maySend lengthRefusal allowedOf bodyRefusal afterOf agreedAfter versionAfter stageAfter awaitsAfter owesAfter owedAfter flagsOf
+  got4 : receiveOf c3 (handshakeBuffer s3 (s .pid) (c .pid) b4) m4 ≡ gives (during C (oc && (os && oc)) 2 4 (pick pad 3 0) 0 0) (Packet 0x7682eef5 44 12 28)
+  unfolding handshakeBuffer castagnoliOf turnRefusal sendRefusal maySend lengthRefusal allowedOf bodyRefusal afterOf agreedAfter versionAfter stageAfter awaitsAfter owesAfter owedAfter flagsOf sizeOf tailOf padsOf paddedOf
   got4 =
-      receives s3 c3 0x7682eef5 (hand (os && oc) (s .pid) (c .pid)) b4 28 (length-handshake _ (s .pid) (c .pid)) (lit< tt) (g .room4) refl m4
-      (record { number = refl; checksum = off (os && oc); turn = refl }) refl refl (lit< tt) (lit< tt) (small-hand (os && oc) (s .pid) (c .pid))
+      receives s3 c3 0x7682eef5 (hand (os && oc) (s .pid) (c .pid)) b4 28 (length-handshake _ (s .pid) (c .pid)) (lit< tt) (g .room4) refl (hand-size pad) m4
+      (record { number = refl; checksum = off (os && oc); stage = refl; profile = refl; turn = refl }) refl refl (lit< tt) (lit< tt) (small-hand (os && oc) (s .pid) (c .pid))
       (hand-passes (os && oc) (s .pid) (c .pid) C (only oc os))
       ∙ rw (hand-flag (os && oc) (s .pid) (c .pid))
     where
@@ -298,8 +305,8 @@ module _ (oc os : Bool) (lc ls : ℕ) (low-c : lc ≤ 2) (low-s : ls ≤ 2) (c s
 
   whole : exchange
       ≡ record {
-        client = during C (oc && os) 2 4 0 0;
-        server = during S (oc && os) 2 4 0 0;
+        client = during C (oc && os) 2 4 (pick pad 3 0) 0 0;
+        server = during S (oc && os) 2 4 (pick pad 3 0) 0 0;
         sent = Written 76 ∷ Written 76 ∷ Written 44 ∷ Written 44 ∷ [];
         received = Packet 0x7acb87aa 76 12 60 ∷ Packet 0x7acb87aa 76 12 60 ∷ Packet 0x7682eef5 44 12 28 ∷ Packet 0x7682eef5 44 12 28 ∷ [];
       }
@@ -307,13 +314,13 @@ module _ (oc os : Bool) (lc ls : ℕ) (low-c : lc ≤ 2) (low-s : ls ≤ 2) (c s
   whole = rw (sent1, got1, sent2, got2, sent3, got3, sent4, got4, both oc os, swap oc os)
 
   -- THE OPENING: both are open, and CRC-32C is agreed exactly if both allow it
-  pub opened : (exchange .client ≡ during C (oc && os) 2 4 0 0) × (exchange .server ≡ during S (oc && os) 2 4 0 0)
+  pub opened : (exchange .client ≡ during C (oc && os) 2 4 (pick pad 3 0) 0 0) × (exchange .server ≡ during S (oc && os) 2 4 (pick pad 3 0) 0 0)
   opened = (ap (λ (o : Opened). o .client) whole, ap (λ (o : Opened). o .server) whole)
 
   -- each waits for the other's next packet
   pub each-awaits : Awaits (exchange .client) (exchange .server) × Awaits (exchange .server) (exchange .client)
-  unfolding castagnoliOf turnRefusal maySend
-  each-awaits = rw whole (record { number = refl; checksum = refl; turn = refl }, record { number = refl; checksum = refl; turn = refl })
+  unfolding castagnoliOf turnRefusal maySend paddedOf
+  each-awaits = rw whole (record { number = refl; checksum = refl; stage = refl; profile = refl; turn = refl }, record { number = refl; checksum = refl; stage = refl; profile = refl; turn = refl })
 
   -- every send call is accepted
   pub all-written : exchange .sent ≡ Written 76 ∷ Written 76 ∷ Written 44 ∷ Written 44 ∷ []

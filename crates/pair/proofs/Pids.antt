@@ -14,6 +14,7 @@ use Rattle.link_state.specs.declared.Moment.{Moment}
 use Rattle.packet.specs.Allowed.{allowedOf}
 use Rattle.packet.specs.Body.{bodyOf}
 use Rattle.packet_in.specs.Head.{lengthRefusal}
+use Rattle.packet_out.specs.Size.{sizeOf}
 use Rattle.packet_out.specs.Packet.{packetOf}
 use Rattle.packet_out.specs.declared.Sent.the-variants.{Written}
 use Rattle.packet_out.proofs.PacketLaws.{length-packet, front-stored}
@@ -83,6 +84,6 @@ module _ (l k : Link) (a : Awaits k l) (may : allowedOf k 0x7682eef5 ≡ true) (
       let P : List ℕ = packetOf l 0x7682eef5 body in
       let w = sym (step-answer l 0x7682eef5 0 (controlAnswer l 0x7682eef5 false (length body) (length b))) ∙ e in
       let room = fits l 0x7682eef5 false (length body) body 0 b refl n w .1 in
-      let p : length P ≡ length body + 16 = length-packet l 0x7682eef5 body in
+      let p : length P ≡ sizeOf l (length body) = length-packet l 0x7682eef5 body in
       ap (λ (s : List ℕ). pidsHeard k s m) (ap (bufferBy l 0x7682eef5 body b) w ∙ front-stored b P (omega arith))
       ∙ pids-received (flagsOf l) (drop (length P) b) ok

@@ -11,6 +11,7 @@ use Rattle.link_state.specs.declared.Moment.{Moment}
 use Rattle.link_state.specs.Turn.{stageAfter}
 use Rattle.packet.specs.Sum.{castagnoliOf}
 use Rattle.packet.specs.Allowed.{allowedOf}
+use Rattle.packet.specs.Padding.{paddedOf}
 use Rattle.link.specs.Look.{turnRefusal}
 use Rattle.link.specs.Next.{agreedAfter, afterOf}
 use Rattle.send_rules.specs.Sent.{sentOf}
@@ -32,12 +33,12 @@ no-handshake k kind over may = go (eqb kind 0x7acb87aa) (eqb kind 0x7682eef5) (s
     go false true e = let z : _≡_ {A = ℕ} 0 1 = cc in absurd (omega arith)
 
 -- l sent a packet of a type that is allowed after the opening, and k received it
-module _ (k l : Link) (over-k : 4 ≤ k .stage) (over-l : 4 ≤ l .stage) (kind id : ℕ) (body : List ℕ) (m : Moment) (may : allowedOf k kind ≡ true) where
+module _ (k l : Link) (over-k : 4 ≤ k .stage) (over-l : 4 ≤ l .stage) (kind id n : ℕ) (body : List ℕ) (m : Moment) (may : allowedOf k kind ≡ true) where
   pub same-sum-k : castagnoliOf (afterOf k kind body m) ≡ castagnoliOf k
   unfolding castagnoliOf afterOf agreedAfter
   same-sum-k = rw (stays (k .stage) over-k, no-handshake k kind over-k may)
 
-  pub same-sum-l : castagnoliOf (sentOf l kind id) ≡ castagnoliOf l
+  pub same-sum-l : castagnoliOf (sentOf l kind id n) ≡ castagnoliOf l
   unfolding castagnoliOf sentOf
   same-sum-l = rw (stays (l .stage) over-l)
 
@@ -45,26 +46,30 @@ module _ (k l : Link) (over-k : 4 ≤ k .stage) (over-l : 4 ≤ l .stage) (kind 
   unfolding turnRefusal afterOf
   same-turn-k = rw (stays (k .stage) over-k)
 
-  pub same-turn-l : turnRefusal (sentOf l kind id) ≡ turnRefusal l
+  pub same-turn-l : turnRefusal (sentOf l kind id n) ≡ turnRefusal l
   unfolding turnRefusal sentOf
   same-turn-l = rw (stays (l .stage) over-l)
 
   -- k waits for l's next packet again
-  pub awaits-again : Awaits k l → Awaits (afterOf k kind body m) (sentOf l kind id)
-  unfolding afterOf sentOf
+  pub awaits-again : Awaits k l → Awaits (afterOf k kind body m) (sentOf l kind id n)
+  unfolding afterOf sentOf paddedOf
   awaits-again a =
       record {
-        number = ap (λ (n : ℕ). (n + 1) % 2 ^ 32) (a .number);
+        number = ap (λ (x : ℕ). (x + 1) % 2 ^ 32) (a .number);
         checksum = same-sum-k ∙ (a .checksum ∙ sym same-sum-l);
+        stage = ap stageAfter (a .stage);
+        profile = a .profile;
         turn = same-turn-k ∙ a .turn;
       }
 
   -- and the other direction is as it was
-  pub awaits-still : Awaits l k → Awaits (sentOf l kind id) (afterOf k kind body m)
-  unfolding afterOf sentOf
+  pub awaits-still : Awaits l k → Awaits (sentOf l kind id n) (afterOf k kind body m)
+  unfolding afterOf sentOf paddedOf
   awaits-still a =
       record {
         number = a .number;
         checksum = same-sum-l ∙ (a .checksum ∙ sym same-sum-k);
+        stage = ap stageAfter (a .stage);
+        profile = a .profile;
         turn = same-turn-l ∙ a .turn;
       }

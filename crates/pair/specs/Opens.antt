@@ -17,14 +17,15 @@ use Rattle.handshake_out.specs.Handshake.{handshakeStep, handshakeBuffer}
 use Rattle.opening.specs.declared.NetPid.{NetPid}
 
 -- a link somewhere in its opening, with no Ping
-abbrev pub during : Settings → Bool → ℕ → ℕ → ℕ → ℕ → Link
-during set crc version stage sends gets =
+abbrev pub during : Settings → Bool → ℕ → ℕ → ℕ → ℕ → ℕ → Link
+during set crc version stage phase sends gets =
     record {
       set = set;
       closed = false;
       crc32c = crc;
       version = version;
       stage = stage;
+      phase = phase;
       sends = sends;
       gets = gets;
       awaits = false;

@@ -4,7 +4,7 @@ use borrow.Author.Tests.{ltb-false}
 use mathlib.Core.Path.{_≡_, refl}
 use mathlib.Core.Bool.{Bool, true, false}
 use mathlib.Core.List.{List}
-use Prim.Native.Nat.{ℕ, _+_, _≤_}
+use Prim.Native.Nat.{ℕ, _≤_}
 use lib.ListN.{length}
 use lib.Dec.{ltb}
 use Rattle.wire.specs.Choice.{pick}
@@ -18,21 +18,24 @@ use Rattle.message_out.specs.MessageStep.{messageAnswer}
 use Rattle.message_out.specs.declared.Outgoing.{Outgoing}
 
 -- none of the send order's rows applies: 19, 12, 15, 2, 16; and the size is the packet's
-pub record Accepted (server : Bool) (w : Outgoing) (p : List ℕ) (room n : ℕ) : Type 0 where
-  pub way : wrongWay server w ≡ false
+pub record Accepted (l : Link) (w : Outgoing) (p : List ℕ) (room n : ℕ) : Type 0 where
+  pub way : wrongWay (l .set .server) w ≡ false
   pub some : numberZero w ≡ false
   pub plain : payloadMisread w p ≡ false
   pub short : length (bodyOf w p) ≤ 16777199
-  pub fits : length (bodyOf w p) + 16 ≤ room
-  pub size : n ≡ length (bodyOf w p) + 16
+  pub fits : sizeOf l (length (bodyOf w p)) ≤ room
+  pub size : n ≡ sizeOf l (length (bodyOf w p))
 
-module _ (server : Bool) (w : Outgoing) (p : List ℕ) (room n : ℕ) where
+module _ (l : Link) (w : Outgoing) (p : List ℕ) (room n : ℕ) where
   abbrev len : ℕ
   len = length (bodyOf w p)
 
-  by-tests : (r x y z t u : Bool) (k : ℕ) → wrongWay server w ≡ x → numberZero w ≡ y → payloadMisread w p ≡ z → ltb 16777199 len ≡ t → ltb room (len + 16) ≡ u
-      → pick r (Refused k) (pick x (Refused 19) (pick y (Refused 12) (pick z (Refused 15) (pick t (Refused 2) (pick u (Refused 16) (Written (len + 16))))))) ≡ Written n
-      → Accepted server w p room n
+  abbrev size : ℕ
+  size = sizeOf l len
+
+  by-tests : (r x y z t u : Bool) (k : ℕ) → wrongWay (l .set .server) w ≡ x → numberZero w ≡ y → payloadMisread w p ≡ z → ltb 16777199 len ≡ t → ltb room size ≡ u
+      → pick r (Refused k) (pick x (Refused 19) (pick y (Refused 12) (pick z (Refused 15) (pick t (Refused 2) (pick u (Refused 16) (Written size)))))) ≡ Written n
+      → Accepted l w p room n
   by-tests true x y z t u k ex ey ez et eu h = let q : _≡_ {A = ℕ} 0 1 = cc in absurd (omega arith)
   by-tests false true y z t u k ex ey ez et eu h = let q : _≡_ {A = ℕ} 0 1 = cc in absurd (omega arith)
   by-tests false false true z t u k ex ey ez et eu h = let q : _≡_ {A = ℕ} 0 1 = cc in absurd (omega arith)
@@ -40,11 +43,11 @@ module _ (server : Bool) (w : Outgoing) (p : List ℕ) (room n : ℕ) where
   by-tests false false false false true u k ex ey ez et eu h = let q : _≡_ {A = ℕ} 0 1 = cc in absurd (omega arith)
   by-tests false false false false false true k ex ey ez et eu h = let q : _≡_ {A = ℕ} 0 1 = cc in absurd (omega arith)
   by-tests false false false false false false k ex ey ez et eu h =
-      let q : len + 16 ≡ n = cc in
-      record { way = ex; some = ey; plain = ez; short = ltb-false 16777199 len et; fits = ltb-false room (len + 16) eu; size = omega arith }
+      let q : size ≡ n = cc in
+      record { way = ex; some = ey; plain = ez; short = ltb-false 16777199 len et; fits = ltb-false room size eu; size = omega arith }
 
-pub accepted : (l : Link) (w : Outgoing) (p : List ℕ) (room n : ℕ) → messageAnswer l w p room ≡ Written n → Accepted (l .set .server) w p room n
-unfolding messageAnswer fitsOf sizeOf
+pub accepted : (l : Link) (w : Outgoing) (p : List ℕ) (room n : ℕ) → messageAnswer l w p room ≡ Written n → Accepted l w p room n
+unfolding messageAnswer fitsOf
 accepted l w p room n h =
-    by-tests (l .set .server) w p room n (refuses (sendRefusal l (kindOf w) false)) (wrongWay (l .set .server) w) (numberZero w) (payloadMisread w p)
-    (ltb 16777199 (length (bodyOf w p))) (ltb room (length (bodyOf w p) + 16)) (sendRefusal l (kindOf w) false) refl refl refl refl refl h
+    by-tests l w p room n (refuses (sendRefusal l (kindOf w) false)) (wrongWay (l .set .server) w) (numberZero w) (payloadMisread w p)
+    (ltb 16777199 (length (bodyOf w p))) (ltb room (sizeOf l (length (bodyOf w p)))) (sendRefusal l (kindOf w) false) refl refl refl refl refl h

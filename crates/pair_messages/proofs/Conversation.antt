@@ -62,7 +62,7 @@ module _ (l k : Link) (s : Saying) (j : Joined l k) (ok : Sound s) where
   heard-one (Refused r) e = refl
 
   -- the two links after it
-  sender-is : (n : ℕ) → answerTo l s ≡ Written n → sender l s ≡ sentOf l (kindOf (s .message)) 0
+  sender-is : (n : ℕ) → answerTo l s ≡ Written n → sender l s ≡ sentOf l (kindOf (s .message)) 0 n
   unfolding messageStep
   sender-is n e = ap (λ (x : Sent). stepBy l (kindOf (s .message)) 0 x .link) e
 
@@ -74,9 +74,9 @@ module _ (l k : Link) (s : Saying) (j : Joined l k) (ok : Sound s) where
   receiver-is n e =
       ap (λ (r : Received). r .link) (message-received l k (s .message) (s .payload) (s .buffer) n e (j .there) (j .open-k) (j .number-l) (ok .bytes) (s .moment))
 
-  joined-by : (l2 k2 : Link) (kind : ℕ) (body : List ℕ) → l2 ≡ sentOf l kind 0 → k2 ≡ afterOf k kind body (s .moment) → Awaits k2 l2 → Awaits l2 k2 → Joined l2 k2
+  joined-by : (l2 k2 : Link) (kind n : ℕ) (body : List ℕ) → l2 ≡ sentOf l kind 0 n → k2 ≡ afterOf k kind body (s .moment) → Awaits k2 l2 → Awaits l2 k2 → Joined l2 k2
   unfolding sentOf afterOf
-  joined-by l2 k2 kind body el ek there back =
+  joined-by l2 k2 kind n body el ek there back =
       record {
         there = there;
         back = back;
@@ -89,7 +89,7 @@ module _ (l k : Link) (s : Saying) (j : Joined l k) (ok : Sound s) where
 
   joined-still : (x : Sent) → answerTo l s ≡ x → Joined (sender l s) (receiver l k s x)
   joined-still (Written n) e =
-      joined-by (sender l s) (receiver l k s (Written n)) (kindOf (s .message)) (bodyOf (s .message) (s .payload)) (sender-is n e) (receiver-is n e)
+      joined-by (sender l s) (receiver l k s (Written n)) (kindOf (s .message)) n (bodyOf (s .message) (s .payload)) (sender-is n e) (receiver-is n e)
       (goes-on l k (s .message) (s .payload) (s .buffer) n e (j .there) (j .open-k) (j .number-l) (ok .bytes) (s .moment) (j .open-l))
       (goes-back l k (s .message) (s .payload) (s .buffer) n e (j .there) (j .open-k) (j .number-l) (ok .bytes) (s .moment) (j .open-l) (j .back))
   joined-still (Refused r) e = rw (sender-stays r e) j
@@ -120,21 +120,21 @@ all-heard l k (s ∷ ss) j ok = go (s .ours) (λ l2 k2 j2. all-heard l2 k2 ss j2
 
 -- ---- from the opening on
 
-module _ (oc os : Bool) (lc ls : ℕ) (low-c : lc ≤ 2) (low-s : ls ≤ 2) (c s : Caller) (b1 b2 b3 b4 : List ℕ) (m3 m4 : Moment) (g : Able c s b1 b2 b3 b4) where
+module _ (oc os pad : Bool) (lc ls : ℕ) (low-c : lc ≤ 2) (low-s : ls ≤ 2) (c s : Caller) (b1 b2 b3 b4 : List ℕ) (m3 m4 : Moment) (g : Able c s b1 b2 b3 b4) where
   -- the exchange of a fresh client and a fresh server
   abbrev exchange : Opened
-  exchange = opens (freshOf (record { server = false; allows = oc; lowest = lc })) (freshOf (record { server = true; allows = os; lowest = ls })) c s b1 b2 b3 b4 m3 m4
+  exchange = opens (freshOf (record { server = false; allows = oc; lowest = lc; padded = pad })) (freshOf (record { server = true; allows = os; lowest = ls; padded = pad })) c s b1 b2 b3 b4 m3 m4
 
   joined : Joined (exchange .client) (exchange .server)
   joined =
       record {
-        there = each-awaits oc os lc ls low-c low-s c s b1 b2 b3 b4 m3 m4 g .1;
-        back = each-awaits oc os lc ls low-c low-s c s b1 b2 b3 b4 m3 m4 g .0;
-        sides = rw (opened oc os lc ls low-c low-s c s b1 b2 b3 b4 m3 m4 g .0, opened oc os lc ls low-c low-s c s b1 b2 b3 b4 m3 m4 g .1);
-        open-l = rw (opened oc os lc ls low-c low-s c s b1 b2 b3 b4 m3 m4 g .0) (lit≤ tt);
-        open-k = rw (opened oc os lc ls low-c low-s c s b1 b2 b3 b4 m3 m4 g .1) (lit≤ tt);
-        number-l = rw (opened oc os lc ls low-c low-s c s b1 b2 b3 b4 m3 m4 g .0) (lit< tt);
-        number-k = rw (opened oc os lc ls low-c low-s c s b1 b2 b3 b4 m3 m4 g .1) (lit< tt);
+        there = each-awaits oc os pad lc ls low-c low-s c s b1 b2 b3 b4 m3 m4 g .1;
+        back = each-awaits oc os pad lc ls low-c low-s c s b1 b2 b3 b4 m3 m4 g .0;
+        sides = rw (opened oc os pad lc ls low-c low-s c s b1 b2 b3 b4 m3 m4 g .0, opened oc os pad lc ls low-c low-s c s b1 b2 b3 b4 m3 m4 g .1);
+        open-l = rw (opened oc os pad lc ls low-c low-s c s b1 b2 b3 b4 m3 m4 g .0) (lit≤ tt);
+        open-k = rw (opened oc os pad lc ls low-c low-s c s b1 b2 b3 b4 m3 m4 g .1) (lit≤ tt);
+        number-l = rw (opened oc os pad lc ls low-c low-s c s b1 b2 b3 b4 m3 m4 g .0) (lit< tt);
+        number-k = rw (opened oc os pad lc ls low-c low-s c s b1 b2 b3 b4 m3 m4 g .1) (lit< tt);
       }
 
   -- so all that a client and a server send each other after their opening is heard

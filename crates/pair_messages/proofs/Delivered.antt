@@ -43,11 +43,11 @@ module _ (l k : Link) (w : Outgoing) (p b : List ℕ) (n : ℕ) (sent : messageA
   unfolding messageStep
   goes-on over-l =
       rw (message-received l k w p b n sent a over number g m, sent)
-      (awaits-again k l over over-l (kindOf w) 0 (bodyOf w p) m (may-come l k w p b n sent over) a)
+      (awaits-again k l over over-l (kindOf w) 0 n (bodyOf w p) m (may-come l k w p b n sent over) a)
 
   -- and the other direction is as it was
   pub goes-back : 4 ≤ l .stage → Awaits l k → Awaits (messageStep l w p (length b) .link) (receiveOf k (messageBuffer l w p b) m .link)
   unfolding messageStep
   goes-back over-l back =
       rw (message-received l k w p b n sent a over number g m, sent)
-      (awaits-still k l over over-l (kindOf w) 0 (bodyOf w p) m (may-come l k w p b n sent over) back)
+      (awaits-still k l over over-l (kindOf w) 0 n (bodyOf w p) m (may-come l k w p b n sent over) back)

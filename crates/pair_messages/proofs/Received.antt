@@ -14,6 +14,7 @@ use Rattle.packet.specs.Allowed.{allowedOf}
 use Rattle.packet_in.specs.Head.{lengthRefusal}
 use Rattle.packet.specs.Body as Body
 use Rattle.packet.specs.declared.Arrival.the-variants.{Packet}
+use Rattle.packet_out.specs.Size.{sizeOf}
 use Rattle.packet_out.specs.Packet.{packetOf}
 use Rattle.packet_out.specs.declared.Sent.the-variants.{Written}
 use Rattle.packet_out.proofs.PacketLaws.{length-packet, front-stored}
@@ -70,7 +71,7 @@ module _ (l k : Link) (w : Outgoing) (p b : List ℕ) (n : ℕ) (sent : messageA
   abbrev packet : List ℕ
   packet = packetOf l (kindOf w) body
 
-  abbrev known : Accepted (l .set .server) w p (length b) n
+  abbrev known : Accepted l w p (length b) n
   known = accepted l w p (length b) n sent
 
   sent-plain : Plain (kindOf w)
@@ -84,7 +85,7 @@ module _ (l k : Link) (w : Outgoing) (p b : List ℕ) (n : ℕ) (sent : messageA
   whole : messageBuffer l w p b ≡ packet ++ drop (length packet) b
   unfolding messageBuffer
   whole =
-      let e : length packet ≡ length body + 16 = length-packet l (kindOf w) body in
+      let e : length packet ≡ sizeOf l (length body) = length-packet l (kindOf w) body in
       ap (bufferBy l (kindOf w) body b) sent ∙ front-stored b packet (omega (arith, known .fits))
 
   -- the body, as the second call hands it back

@@ -51,6 +51,10 @@ pub const NOT_OUR_TURN: u8 = 22;
 
 pub const VERSION_TOO_OLD: u8 = 24;
 
+pub const PADDING_NOT_ZERO: u8 = 25;
+
+pub const FOURTH_WORD: u8 = 26;
+
 // The table of requests in flight; 30 also of a link that is set up.
 pub const OUT_OF_RANGE: u8 = 30;
 

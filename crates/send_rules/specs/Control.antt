@@ -37,7 +37,7 @@ controlAnswer l kind busy len room =
 
 -- the link after the call: a send that is refused changes nothing
 abbrev pub stepBy : Link → ℕ → ℕ → Sent → Step
-stepBy l kind id (Written n) = record { link = sentOf l kind id; answer = Written n }
+stepBy l kind id (Written n) = record { link = sentOf l kind id n; answer = Written n }
 stepBy l kind id (Refused k) = record { link = l; answer = Refused k }
 
 -- the buffer after the call: the packet at its front, or all as it was

@@ -5,6 +5,7 @@ use lib.Dec.{eqb}
 use Rattle.wire.specs.Choice.{pick}
 use Rattle.link_state.specs.declared.Link.{Link}
 use Rattle.link_state.specs.Turn.{stageAfter}
+use Rattle.packet.specs.Padding.{phaseAfter}
 
 -- "One Ping of ours may be unanswered": a Ping is, until its Pong comes
 unfoldable pub awaitsSent : Link → ℕ → Bool
@@ -18,15 +19,17 @@ awaitedSent l kind id = pick (eqb kind 0x5730a2df) id (l .awaited)
 unfoldable pub owesSent : Link → ℕ → Bool
 owesSent l kind = pick (eqb kind 0x8430eaa7) false (l .owes)
 
--- the link after it sent a packet of a type; id is a Ping's: "each next is one more, and after 4,294,967,295 comes 0"
-unfoldable pub sentOf : Link → ℕ → ℕ → Link
-sentOf l kind id =
+-- the link after it sent a packet of a type, which takes n bytes with its zeros; id is a Ping's: "each next is one
+-- more, and after 4,294,967,295 comes 0"
+unfoldable pub sentOf : Link → ℕ → ℕ → ℕ → Link
+sentOf l kind id n =
     record {
       set = l .set;
       closed = l .closed;
       crc32c = l .crc32c;
       version = l .version;
       stage = stageAfter (l .stage);
+      phase = phaseAfter l n;
       sends = (l .sends + 1) % 2 ^ 32;
       gets = l .gets;
       awaits = awaitsSent l kind;

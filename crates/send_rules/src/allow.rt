@@ -5,6 +5,7 @@ use link_state::stage_after;
 use packet::PING;
 use packet::PONG;
 use packet::allowed;
+use packet::phase_after;
 use packet_out::Sent;
 use packet_out::size_or_refusal;
 use refusal::LINK_CLOSED;
@@ -60,9 +61,9 @@ fn owes_sent(link: Link, kind: u32) -> bool
     if kind == PONG { false } else { link.owes }
 }
 
-// The link after it sent a packet of this type; id: the ID of a Ping.
-pub fn sent(link: Link, kind: u32, id: u64) -> Link
-    ensures { λ r. ⌜ r ≡ sentOf link kind id ⌝ }
+// The link after it sent a packet of this type, which takes n bytes; id: the ID of a Ping.
+pub fn sent(link: Link, kind: u32, id: u64, n: usize) -> Link
+    ensures { λ r. ⌜ r ≡ sentOf link kind id n ⌝ }
 {
     let set = link.set;
     Link {
@@ -71,6 +72,7 @@ pub fn sent(link: Link, kind: u32, id: u64) -> Link
         crc32c: link.crc32c,
         version: link.version,
         stage: stage_after(link.stage),
+        phase: phase_after(link, n),
         sends: std::num::wrapping_add_u32(link.sends, 1),
         gets: link.gets,
         awaits: awaits_sent(link, kind),

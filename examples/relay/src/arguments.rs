@@ -6,12 +6,16 @@ use relay::{Link, Settings};
 use std::net::SocketAddr;
 use std::time::Duration;
 
-const USAGE: &str =
-    "usage: relay [--retry-ms N] [--ping-ms N] [--opening-ms N] LISTEN PUBLISHER (eight of them)
-PUBLISHER is ADDRESS[,NAME=VALUE]...; lowest=N: the lowest version of its Nonce, 0 to 2
---retry-ms: the pause before a publisher is tried again, 1000 if not said
---ping-ms: the interval of the keep-alive, and what a dropped peer has to read the rest, 10000
---opening-ms: from a connection's start until its link must be open, 5000";
+const USAGE: &str = "usage: relay [OPTION]... LISTEN PUBLISHER (eight of them)
+PUBLISHER is ADDRESS[,NAME=VALUE]...
+  lowest=N: the lowest version of its Nonce, 0 to 2, 0 if not said
+  padded=yes or padded=no: whether the link to it is padded, no if not said
+OPTION
+  --retry-ms N: the pause before a publisher is tried again, 1000 if not said
+  --ping-ms N: the interval of the keep-alive, and what a dropped peer has to read the rest, 10000
+  --opening-ms N: from a connection's start until its link must be open, 5000
+  --padded-fronts: the links to all front ends are padded
+A link is padded at both ends or at none.";
 
 /// Where to listen, and all else; or what is wrong.
 pub fn read(mut words: impl Iterator<Item = String>) -> Result<(SocketAddr, Options), String> {
@@ -19,11 +23,13 @@ pub fn read(mut words: impl Iterator<Item = String>) -> Result<(SocketAddr, Opti
     let mut retry = 1000;
     let mut keep_alive = 10_000;
     let mut opening = 5000;
+    let mut front = settings::FRONT;
     while let Some(word) = words.next() {
         match word.as_str() {
             "--retry-ms" => retry = milliseconds(words.next())?,
             "--ping-ms" => keep_alive = milliseconds(words.next())?,
             "--opening-ms" => opening = milliseconds(words.next())?,
+            "--padded-fronts" => front = front.with_padded(true),
             _ => positional.push(word),
         }
     }
@@ -32,6 +38,7 @@ pub fn read(mut words: impl Iterator<Item = String>) -> Result<(SocketAddr, Opti
     let publishers = publishers.iter().map(|word| read_word(word, publisher));
     let publishers: Vec<Publisher> = publishers.collect::<Result<_, _>>()?;
     let options = Options {
+        front,
         publishers: publishers.try_into().map_err(|_| USAGE)?,
         retry: Duration::from_millis(retry),
         keep_alive: Duration::from_millis(keep_alive),
@@ -68,21 +75,34 @@ fn publisher(word: &str) -> Result<Publisher, String> {
 
 /// Each part is `NAME=VALUE`, and no name comes twice.
 fn settings_of<'a>(parts: impl Iterator<Item = &'a str>) -> Result<Settings, String> {
-    let mut lowest = None;
+    let mut settings = settings::PUBLISHER;
+    let mut names = Vec::new();
     for part in parts {
         let (name, value) = part.split_once('=').ok_or("a setting without a value")?;
-        let setting = match name {
-            "lowest" => &mut lowest,
+        settings = match name {
+            "lowest" => settings.with_lowest(byte(name, value)?),
+            "padded" => settings.with_padded(yes_or_no(name, value)?),
             _ => return Err(format!("unknown setting {name}")),
         };
-        let value: Result<u8, _> = value.parse();
-        let value = value.map_err(|_| format!("{name} is no number from 0 to 255"))?;
-        if setting.replace(value).is_some() {
+        if names.contains(&name) {
             return Err(format!("{name} twice"));
         }
+        names.push(name);
     }
-    let settings = settings::PUBLISHER;
-    Ok(lowest.map_or(settings, |lowest| settings.with_lowest(lowest)))
+    Ok(settings)
+}
+
+fn byte(name: &str, value: &str) -> Result<u8, String> {
+    let number = value.parse();
+    number.map_err(|_| format!("{name} is no number from 0 to 255"))
+}
+
+fn yes_or_no(name: &str, value: &str) -> Result<bool, String> {
+    match value {
+        "yes" => Ok(true),
+        "no" => Ok(false),
+        _ => Err(format!("{name} is neither yes nor no")),
+    }
 }
 
 #[cfg(test)]
@@ -121,7 +141,7 @@ mod tests {
     }
 
     #[test]
-    fn a_publisher_without_settings_takes_every_version() {
+    fn links_without_settings_take_every_version_and_are_not_padded() {
         let expected = Publisher {
             address: "127.0.0.1:2".parse().unwrap(),
             settings: settings::PUBLISHER,
@@ -129,7 +149,10 @@ mod tests {
         let (listen, options) = line(&["127.0.0.1:2"; 8]).unwrap();
         assert_eq!(listen, "127.0.0.1:1".parse().unwrap());
         assert_eq!(options.publishers, [expected; 8]);
-        assert_eq!(settings::PUBLISHER.lowest, 0);
+        assert_eq!(options.front, settings::FRONT);
+        for settings in [settings::PUBLISHER, settings::FRONT] {
+            assert_eq!((settings.lowest, settings.padded), (0, false));
+        }
     }
 
     #[test]
@@ -148,6 +171,33 @@ mod tests {
     }
 
     #[test]
+    fn each_publisher_is_padded_or_not() {
+        let mut words = ["127.0.0.1:2"; 8];
+        words[1] = "127.0.0.1:3,padded=yes";
+        words[2] = "127.0.0.1:3,padded=no";
+        words[3] = "127.0.0.1:3,lowest=2,padded=yes";
+        words[4] = "127.0.0.1:3,padded=yes,lowest=1";
+        let (_, options) = line(&words).unwrap();
+        let settings = options.publishers.map(|publisher| publisher.settings);
+        let padded = settings.map(|settings| settings.padded);
+        let [y, n] = [true, false];
+        assert_eq!(padded, [n, y, n, y, y, n, n, n]);
+        let lowest = settings.map(|settings| settings.lowest);
+        assert_eq!(lowest, [0, 0, 0, 2, 1, 0, 0, 0]);
+        assert!(!options.front.padded);
+    }
+
+    #[test]
+    fn front_ends_are_padded_all_or_none() {
+        let words = ["--padded-fronts", "127.0.0.1:1"];
+        let words = words.iter().chain(&["127.0.0.1:2"; 8]);
+        let (_, options) = read(words.map(|word| word.to_string())).unwrap();
+        assert_eq!(options.front, settings::FRONT.with_padded(true));
+        let settings = options.publishers.map(|publisher| publisher.settings);
+        assert_eq!(settings, [settings::PUBLISHER; 8]);
+    }
+
+    #[test]
     fn a_setting_of_another_form_is_a_usage_error() {
         for (settings, what) in [
             ("", "a setting without a value"),
@@ -158,6 +208,12 @@ mod tests {
             ("lowest=-1", "lowest is no number from 0 to 255"),
             ("lowest=256", "lowest is no number from 0 to 255"),
             ("lowest=1,lowest=1", "lowest twice"),
+            ("padded", "a setting without a value"),
+            ("padded=", "padded is neither yes nor no"),
+            ("padded=1", "padded is neither yes nor no"),
+            ("padded=Yes", "padded is neither yes nor no"),
+            ("padded=yes,padded=no", "padded twice"),
+            ("padded=yes,lowest=1,padded=yes", "padded twice"),
             ("highest=1", "unknown setting highest"),
             ("lowest=1,highest=1", "unknown setting highest"),
             ("=1", "unknown setting "),

@@ -2,12 +2,11 @@
 //! and what is to be done comes back as actions. Here: which packet is for whom.
 //! `opening` and `keep_alive` have what is a connection's own, `forward` the
 //! way of requests and answers, `unreadable` what becomes of those that cannot
-//! be read.
+//! be read, `flush` what ends the output of an event.
 
 use crate::connection::{side_towards, Connection};
 use crate::counts::Counts;
 use crate::event::{Action, Event, Peer};
-use crate::settings;
 use relay::packet_type::{HANDSHAKE, NONCE, PING, PONG};
 use relay::{
     read_message, Answer, Arrival, Message, Moment, PublisherNumber, Refusal, Settings, Table,
@@ -21,9 +20,12 @@ pub struct Core {
     pub(crate) table: Table,
     fronts: [Option<Connection>; LINKS as usize],
     publishers: [Option<Connection>; PUBLISHERS as usize],
-    /// Of the links to the publishers.
-    settings: [Settings; PUBLISHERS as usize],
+    /// Of the links to the front ends, and of those to the publishers.
+    front_settings: Settings,
+    publisher_settings: [Settings; PUBLISHERS as usize],
     pub(crate) actions: Vec<Action>,
+    /// Whom the event has sent packets that are not flushed yet.
+    pub(crate) unflushed: Vec<Peer>,
     pub(crate) counts: Counts,
     moment: Moment,
     /// The ID of our next Ping.
@@ -31,15 +33,18 @@ pub struct Core {
 }
 
 impl Core {
-    /// With the settings of the links to the publishers.
-    pub fn new(settings: [Settings; PUBLISHERS as usize]) -> Core {
+    /// With the settings of the links to all front ends, and of those to the
+    /// publishers.
+    pub fn new(front: Settings, publishers: [Settings; PUBLISHERS as usize]) -> Core {
         Core {
             // Every number from 1 on is accepted here.
             table: Table::new(PublisherNumber(1)).expect("1 is a first number"),
             fronts: std::array::from_fn(|_| None),
             publishers: std::array::from_fn(|_| None),
-            settings,
+            front_settings: front,
+            publisher_settings: publishers,
             actions: Vec::new(),
+            unflushed: Vec::new(),
             counts: Counts::default(),
             moment: Moment { time: 0 },
             next_ping: 1,
@@ -62,6 +67,7 @@ impl Core {
             Event::TurnedAway => self.counts.turned_away += 1,
             Event::Tick => self.tick(),
         }
+        self.flush_all();
         std::mem::take(&mut self.actions)
     }
 
@@ -75,8 +81,11 @@ impl Core {
     /// Of the link to a peer; none if there is no such publisher.
     pub(crate) fn settings(&self, peer: Peer) -> Option<Settings> {
         match peer {
-            Peer::Front(_) => Some(settings::FRONT),
-            Peer::Publisher(publisher) => self.settings.get(usize::from(publisher)).copied(),
+            Peer::Front(_) => Some(self.front_settings),
+            Peer::Publisher(publisher) => {
+                let settings = self.publisher_settings.get(usize::from(publisher));
+                settings.copied()
+            }
         }
     }
 
@@ -150,6 +159,7 @@ impl Core {
         let size = connection.link.send(&mut packet, what, moment)?;
         packet.truncate(size);
         self.actions.push(Action::Send(peer, packet));
+        self.flush_later(peer);
         Ok(())
     }
 
@@ -170,6 +180,7 @@ impl Core {
     pub(crate) fn close(&mut self, peer: Peer) {
         if self.connection(peer).is_some() {
             self.counts.dropped += 1;
+            self.flush(peer);
             self.actions.push(Action::Close(peer));
             self.gone(peer);
         }

@@ -39,6 +39,8 @@ pub enum Event<'a> {
 
 #[derive(Debug, PartialEq, Eq)]
 pub enum Action {
+    /// A packet; on a padded link with the words of a flush behind it, if it is
+    /// the last one for its peer.
     Send(Peer, Vec<u8>),
     /// Everything sent before goes out, if the peer takes it in time, then the
     /// connection ends. No event `Closed` need follow.

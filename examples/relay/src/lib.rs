@@ -10,6 +10,7 @@ mod connection;
 pub mod core;
 pub mod counts;
 pub mod event;
+mod flush;
 mod forward;
 mod keep_alive;
 pub mod network;

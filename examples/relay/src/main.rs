@@ -1,10 +1,12 @@
-//! The program: `relay [--retry-ms N] [--ping-ms N] [--opening-ms N] LISTEN
-//! PUBLISHER ...`, with exactly eight publishers. The times are between two
-//! attempts to reach a publisher, of the keep-alive, and from a connection's
-//! start until its link must be open. A publisher is its address, or for instance
-//! `10.0.0.7:2001,lowest=2`: the lowest version that its Nonce may have, 0 to 2,
-//! and 0 if not said. It prints the address on which it listens, and the counts
-//! for each line on standard input.
+//! The program: `relay [OPTION]... LISTEN PUBLISHER ...`, with exactly eight
+//! publishers. The options `--retry-ms N`, `--ping-ms N` and `--opening-ms N` are
+//! the times between two attempts to reach a publisher, of the keep-alive, and
+//! from a connection's start until its link must be open; with `--padded-fronts`
+//! the links to all front ends are padded. A publisher is its address, or for
+//! instance `10.0.0.7:2001,lowest=2,padded=yes`: the lowest version that its Nonce
+//! may have, 0 to 2, and 0 if not said; and whether the link to it is padded. It
+//! prints the address on which it listens, and the counts for each line on
+//! standard input.
 
 use relay_example::arguments;
 use relay_example::network::serve;

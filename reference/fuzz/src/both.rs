@@ -5,8 +5,10 @@ use crate::compare::{same, Compared, Difference};
 use crate::counts::Counts;
 use crate::messages;
 use crate::netpids::{self, netpid};
-use reference::link::{packet, Link, Outgoing, Received, Settings, State};
+use crate::states::{self, our_settings};
+use reference::link::{packet, Link, Outgoing, Received, Settings};
 use reference::message::{Message, Outcome, Side, Span};
+use reference::refusal::Refusal;
 use relay::raw;
 use relay::{clock_difference, Arrival, Moment, ToSend};
 
@@ -38,15 +40,9 @@ pub fn our_side(side: Side) -> relay::Side {
     }
 }
 
-/// The same settings for our library.
-pub fn our_settings(settings: Settings) -> relay::Settings {
-    relay::Settings::new(our_side(settings.side), settings.crc32c_allowed)
-        .with_lowest(settings.lowest_version)
-}
-
 impl End {
     /// For settings that are not refused.
-    pub fn new(settings: Settings) -> End {
+    fn new(settings: Settings) -> End {
         End {
             side: settings.side,
             ours: relay::Link::new(our_settings(settings)).expect("a link of ours"),
@@ -55,8 +51,9 @@ impl End {
     }
 
     pub fn same_state(&mut self, call: impl FnOnce() -> String) -> Compared {
-        let ours = state(self.ours.raw());
-        same("a link's state", call, ours, self.second.state())
+        let ours = states::ours(self.ours.raw());
+        let second = states::second(self.second.state());
+        same("a link's state", call, ours, second)
     }
 
     /// Lends the bytes to both.
@@ -123,7 +120,33 @@ impl End {
         }))
     }
 
-    /// A packet with the number and checksum that this end expects next.
+    /// Both flush into a buffer of `room` bytes that are `filler`; hands back
+    /// the words.
+    pub fn flush(
+        &mut self,
+        room: usize,
+        filler: u8,
+        counts: &mut Counts,
+    ) -> Result<Option<Vec<u8>>, Difference> {
+        let side = self.side;
+        let call = || format!("flush at {side:?}, room {room}");
+        let mut our_buffer = vec![filler; room];
+        let mut buffer = our_buffer.clone();
+        let ours = self.ours.flush(&mut our_buffer);
+        let second = self.second.flush(&mut buffer);
+        let second = second.map_err(|refusal| refusal.number());
+        same("a flush", call, ours.map_err(|r| r.number()), second)?;
+        same("a flushed buffer", call, &our_buffer, &buffer)?;
+        self.same_state(call)?;
+        counts.add("flush", second.map(flushed));
+        Ok(second.ok().map(|size| {
+            buffer.truncate(size);
+            buffer
+        }))
+    }
+
+    /// A packet with the number and checksum that this end expects next,
+    /// without anything around it.
     pub fn expected_packet(&self, packet_type: u32, body: &[u8]) -> Vec<u8> {
         let (number, checksum) = self.second.expected();
         packet::whole(number, packet_type, body, checksum)
@@ -133,32 +156,6 @@ impl End {
     pub fn read(&self, received: Packet, bytes: &[u8], counts: &mut Counts) -> Compared {
         let body = received.body.of(bytes);
         messages::compare(self.side, received.packet_type, body, counts)
-    }
-}
-
-fn settings(set: raw::Settings) -> Settings {
-    let side = if set.server {
-        Side::Server
-    } else {
-        Side::Client
-    };
-    Settings {
-        lowest_version: set.lowest,
-        ..Settings::new(side, set.allows)
-    }
-}
-
-pub fn state(link: &raw::Link) -> State {
-    State {
-        settings: settings(link.set),
-        closed: link.closed,
-        stage: link.stage,
-        incoming: link.gets,
-        outgoing: link.sends,
-        crc32c: link.crc32c && link.stage >= 4,
-        their_version: link.version,
-        awaited: link.awaits.then_some(link.awaited),
-        owed: link.owes.then_some(link.owed),
     }
 }
 
@@ -207,6 +204,27 @@ fn kind(what: &Outgoing) -> &'static str {
     }
 }
 
+fn flushed(size: usize) -> &'static str {
+    match size {
+        0 => "0 bytes",
+        4 => "4 bytes",
+        8 => "8 bytes",
+        12 => "12 bytes",
+        _ => "another size",
+    }
+}
+
+/// A send's or flush's answer as it crosses the C interface.
+pub fn raw_sent(answer: Result<usize, Refusal>) -> raw::Sent {
+    match answer {
+        Ok(size) => raw::Sent { refusal: 0, size },
+        Err(refusal) => raw::Sent {
+            refusal: refusal.number(),
+            size: 0,
+        },
+    }
+}
+
 /// The same for our library; the time goes apart.
 pub fn to_send<'a>(what: &Outgoing<'a>) -> ToSend<'a> {
     match *what {
@@ -247,13 +265,24 @@ fn shown(what: &Outgoing) -> String {
     format!("{:02x?}", to_send(what))
 }
 
+/// Two ends of one connection before its opening.
+pub fn pair(settings: [Settings; 2], counts: &mut Counts) -> [End; 2] {
+    let word = match settings.map(|of_end| of_end.padded) {
+        [true, true] => "padded",
+        [false, false] => "unpadded",
+        _ => "one end padded",
+    };
+    counts.add("pair", Ok(word));
+    settings.map(End::new)
+}
+
 /// Two ends of one connection that have opened as far as `stage`.
 pub fn opened(
     settings: [Settings; 2],
     stage: usize,
     counts: &mut Counts,
 ) -> Result<[End; 2], Difference> {
-    let mut ends = settings.map(End::new);
+    let mut ends = pair(settings, counts);
     let time = 1_700_000_000;
     let nonce = Outgoing::Nonce(time, [7; 16]);
     let handshake = Outgoing::Handshake([1; 12], [2; 12]);

@@ -5,13 +5,15 @@ use crate::both::{self, End, Taken};
 use crate::compare::{Compared, Difference};
 use crate::counts::Counts;
 use crate::draw::{self, coin, one_in};
+use crate::flushes;
 use crate::packets;
+use crate::padding;
 use reference::generator::Generator;
 use reference::link::{packet, Outgoing};
 
 pub fn case(g: &mut Generator, counts: &mut Counts) -> Compared {
     if coin(g) {
-        Pair::new(g).talk(g, counts)
+        Pair::new(g, counts).talk(g, counts)
     } else {
         against_a_stranger(g, counts)
     }
@@ -27,6 +29,7 @@ struct Pair {
 enum Step {
     Send(usize),
     Receive(usize),
+    Flush(usize),
 }
 
 fn base_time(g: &mut Generator) -> u32 {
@@ -38,8 +41,8 @@ fn base_time(g: &mut Generator) -> u32 {
 }
 
 impl Pair {
-    fn new(g: &mut Generator) -> Pair {
-        let ends = draw::settings(g).map(End::new);
+    fn new(g: &mut Generator, counts: &mut Counts) -> Pair {
+        let ends = both::pair(draw::settings(g), counts);
         let time = base_time(g);
         let skew = g.pick(&[0, 0, 1, 7, 29, 30, 30, 31]);
         let times = [time, time.wrapping_add(skew)];
@@ -52,13 +55,17 @@ impl Pair {
 
     fn talk(&mut self, g: &mut Generator, counts: &mut Counts) -> Compared {
         // A share of the conversations is honest from end to end.
-        let spoils = if coin(g) { 25 } else { u64::MAX };
+        let spoils = if coin(g) { 12 } else { u64::MAX };
         let mut left = 15 + g.below(60);
         while left > 0 {
             left -= 1;
             match self.due(g) {
                 Step::Send(i) => self.send(g, i, spoils, counts)?,
                 Step::Receive(i) => self.receive(g, i, counts)?,
+                Step::Flush(i) => {
+                    let words = flushes::any(g, &mut self.ends[i], counts)?;
+                    self.streams[1 - i].extend(words.unwrap_or_default());
+                }
             }
             if self.ends.iter().any(|end| end.second.is_closed()) {
                 left = left.min(4);
@@ -72,13 +79,16 @@ impl Pair {
         let stage = |i: usize| self.ends[i].second.state().stage;
         let i = g.below(2) as usize;
         if stage(i) == 4 || one_in(g, 6) {
-            return if coin(g) {
-                Step::Send(i)
-            } else {
-                Step::Receive(i)
+            return match g.below(9) {
+                0..4 => Step::Send(i),
+                4..8 => Step::Receive(i),
+                _ => Step::Flush(i),
             };
         }
-        match self.streams.iter().position(|stream| !stream.is_empty()) {
+        // The client, 0, receives at odd stages, the server, 1, at even ones.
+        // Words may be on the way to a server that is to send.
+        let is_reader = |i: &usize| !self.streams[*i].is_empty() && stage(*i) as usize % 2 != *i;
+        match (0..2).find(is_reader) {
             Some(reader) => Step::Receive(reader),
             None => Step::Send(usize::from(stage(i) % 2 == 1)),
         }
@@ -90,7 +100,7 @@ impl Pair {
             return Ok(());
         };
         if one_in(g, spoils) {
-            packets::spoil(g, &self.ends[1 - i], &mut packet);
+            packet = packets::instead(g, &self.ends[1 - i], packet);
         }
         self.streams[1 - i].extend(packet);
         Ok(())
@@ -101,7 +111,7 @@ impl Pair {
         let cut = if coin(g) {
             stream.len()
         } else {
-            g.below(stream.len() as u64 + 1) as usize
+            padding::cut(g, stream.len())
         };
         let used = receive_and_read(&mut self.ends[i], &stream[..cut], self.times[i], counts)?;
         self.streams[i].drain(..used);
@@ -126,7 +136,7 @@ fn receive_and_read(
 }
 
 /// Mostly what is due, into a buffer that mostly has room.
-fn send_something(
+pub fn send_something(
     g: &mut Generator,
     end: &mut End,
     time: u32,
@@ -156,10 +166,11 @@ fn send_something(
 fn narrow_room(g: &mut Generator, end: &End, what: &Outgoing) -> usize {
     let needed = end.second.clone().send(what, &mut [0; 1000]).unwrap_or(16);
     let any = g.below(100) as usize;
-    g.pick(&[needed - 1, needed, needed + 1, any, 0])
+    let near = draw::near(g, needed);
+    g.pick(&[near, near, needed, any, 0])
 }
 
-/// One end, whose sends go nowhere, and packets made for it.
+/// One end, whose sends and flushes go nowhere, and packets made for it.
 fn against_a_stranger(g: &mut Generator, counts: &mut Counts) -> Compared {
     let settings = draw::settings(g);
     let stage = g.pick(&[0, 0, 0, 1, 2, 3, 4, 4, 4, 4]);
@@ -169,22 +180,33 @@ fn against_a_stranger(g: &mut Generator, counts: &mut Counts) -> Compared {
     let mut left = 5 + g.below(40);
     while left > 0 {
         left -= 1;
-        if g.below(3) == 0 {
-            send_something(g, &mut end, time, counts)?;
-        } else {
-            let mut bytes = packets::crafted(g, &end, time);
-            if one_in(g, 3) {
-                bytes.truncate(g.below(bytes.len() as u64 + 1) as usize);
+        match g.below(10) {
+            0..3 => {
+                send_something(g, &mut end, time, counts)?;
             }
-            if one_in(g, 3) {
-                let more = end.expected_packet(packet::PING, &[5; 8]);
-                bytes.extend(more);
+            3 => {
+                flushes::any(g, &mut end, counts)?;
             }
-            receive_and_read(&mut end, &bytes, time, counts)?;
+            _ => {
+                let bytes = from_a_stranger(g, &end, time);
+                receive_and_read(&mut end, &bytes, time, counts)?;
+            }
         }
         if end.second.is_closed() {
             left = left.min(2);
         }
     }
     Ok(())
+}
+
+/// A packet, cut now and then, with more behind it now and then.
+fn from_a_stranger(g: &mut Generator, end: &End, time: u32) -> Vec<u8> {
+    let mut bytes = packets::crafted(g, end, time);
+    if one_in(g, 3) {
+        bytes.truncate(padding::cut(g, bytes.len()));
+    }
+    if one_in(g, 3) {
+        bytes.extend(end.expected_packet(packet::PING, &[5; 8]));
+    }
+    bytes
 }

@@ -12,15 +12,16 @@ enum Answer {
 #[derive(Default)]
 pub struct Counts(BTreeMap<(&'static str, Answer), u64>);
 
-/// The refusals that each call has; those of send and receive in their order.
-const REFUSALS: [(&str, &[u8]); 10] = [
+/// The refusals that each call has; those of a link are in their order.
+const REFUSALS: [(&str, &[u8]); 11] = [
     ("read", &[19, 11, 12, 13, 14, 17, 18]),
     ("set-up", &[30]),
     (
         "receive",
-        &[20, 22, 1, 3, 2, 4, 5, 6, 7, 8, 24, 9, 10, 17, 21],
+        &[20, 22, 26, 1, 3, 2, 4, 5, 6, 25, 7, 8, 24, 9, 10, 17, 21],
     ),
     ("send", &[20, 22, 5, 21, 19, 12, 15, 2, 16]),
+    ("flush", &[20, 16]),
     ("fresh", &[30]),
     ("ask", &[30, 12, 31, 32, 33]),
     ("reply", &[30, 12, 34]),

@@ -26,10 +26,23 @@ pub fn other(side: Side) -> Side {
     }
 }
 
-/// Settings of a client and of a server that no set-up refuses.
+/// From 0 to `last`.
+pub fn up_to(g: &mut Generator, last: usize) -> usize {
+    g.below(last as u64 + 1) as usize
+}
+
+/// A room on either side of what is needed; zeros may be its last three bytes.
+pub fn near(g: &mut Generator, needed: usize) -> usize {
+    needed + 1 - up_to(g, 5)
+}
+
+/// Settings of a client and of a server that no set-up refuses; both are
+/// mostly padded, or both not.
 pub fn settings(g: &mut Generator) -> [Settings; 2] {
+    let padded = coin(g);
     [Side::Client, Side::Server].map(|side| Settings {
         lowest_version: g.pick(&[0, 1, 2]),
+        padded: padded != one_in(g, 20),
         ..Settings::new(side, coin(g))
     })
 }

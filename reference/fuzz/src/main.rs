@@ -13,12 +13,15 @@ mod compare;
 mod conversations;
 mod counts;
 mod draw;
+mod flushes;
 mod messages;
 mod netpids;
 mod options;
 mod packets;
+mod padding;
 mod sends;
 mod set_ups;
+mod states;
 mod tables;
 mod types;
 
@@ -86,7 +89,8 @@ fn one(seed: u64, case: u64, counts: &mut Counts) -> Compared {
         2 => clocks::case(g, counts),
         3 => netpids::case(g, counts),
         4..6 => set_ups::case(g, counts),
-        6..35 => messages::case(g, counts),
+        6..32 => messages::case(g, counts),
+        32..35 => flushes::case(g, counts),
         35..70 => conversations::case(g, counts),
         70..80 => sends::case(g, counts),
         80..85 => types::case(g, counts),

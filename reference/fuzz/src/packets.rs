@@ -3,14 +3,35 @@
 
 use crate::both::End;
 use crate::draw;
+use crate::padding;
 use reference::checksum::{CRC32, CRC32C};
 use reference::generator::Generator;
 use reference::link::packet::{self, HANDSHAKE, NONCE, PING, PONG};
 use reference::link::{handshake_body, nonce_body, State};
 use reference::message;
 
-/// A packet for `to`, mostly of a type that may come now.
+/// On either side of each line; 4 is a word's value.
+const LENGTHS: [u32; 10] = [
+    0,
+    4,
+    15,
+    16,
+    17,
+    1023,
+    1024,
+    0xff_ffff,
+    0x100_0000,
+    u32::MAX,
+];
+
+/// A packet for `to`, mostly of a type that may come now, with what stands
+/// around it on padded links.
 pub fn crafted(g: &mut Generator, to: &End, time: u32) -> Vec<u8> {
+    let packet = alone(g, to, time);
+    padding::around(g, to, packet)
+}
+
+fn alone(g: &mut Generator, to: &End, time: u32) -> Vec<u8> {
     let state = to.second.state();
     let packet_type = match (g.below(12), state.stage) {
         (0, _) => {
@@ -95,27 +116,28 @@ fn ping(g: &mut Generator, state: State) -> Vec<u8> {
     body
 }
 
+/// In place of a packet that was sent: half of them are spoilt, and what stands
+/// around each is drawn anew.
+pub fn instead(g: &mut Generator, to: &End, mut packet: Vec<u8>) -> Vec<u8> {
+    let length = u32::from_le_bytes([packet[0], packet[1], packet[2], packet[3]]);
+    packet.truncate(length as usize);
+    if draw::coin(g) {
+        spoil(g, to, &mut packet);
+    }
+    padding::around(g, to, packet)
+}
+
 /// A wrong length, number, type or checksum, the rest left as it was, or made
 /// right again.
-pub fn spoil(g: &mut Generator, to: &End, packet: &mut Vec<u8>) {
+fn spoil(g: &mut Generator, to: &End, packet: &mut Vec<u8>) {
     let (number, checksum) = to.second.expected();
     let packet_type = u32::from_le_bytes([packet[8], packet[9], packet[10], packet[11]]);
     let body = packet[12..packet.len() - 4].to_vec();
     match g.below(6) {
         0 => {
             let random = g.draw() as u32;
-            let wrong = g.pick(&[
-                0,
-                15,
-                16,
-                17,
-                1023,
-                1024,
-                0xff_ffff,
-                0x100_0000,
-                u32::MAX,
-                random,
-            ]);
+            let line = g.pick(&LENGTHS);
+            let wrong = if draw::one_in(g, 10) { random } else { line };
             packet[..4].copy_from_slice(&wrong.to_le_bytes());
         }
         1 => {

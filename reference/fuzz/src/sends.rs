@@ -5,6 +5,7 @@ use crate::both::{self, to_send, End};
 use crate::compare::{same, Compared};
 use crate::counts::Counts;
 use crate::draw::{self, one_in};
+use crate::padding;
 use reference::generator::Generator;
 use reference::link::packet::FIRST_NUMBER;
 use reference::link::Outgoing;
@@ -20,7 +21,7 @@ pub fn case(g: &mut Generator, counts: &mut Counts) -> Compared {
     let ends = both::opened(settings, stage, counts)?;
     let from = g.below(2) as usize;
     let end = &ends[from];
-    if stage == 4 && one_in(g, 2000) {
+    if stage == 4 && one_in(g, 1000) {
         return long(g, end, &ends[1 - from], counts);
     }
     let time = g.draw() as u32;
@@ -33,7 +34,8 @@ pub fn case(g: &mut Generator, counts: &mut Counts) -> Compared {
     let what = draw::outgoing(g, time, &message);
     let needed = end.second.clone().send(&what, &mut [0; 1000]).unwrap_or(40);
     let any = g.below(1000) as usize;
-    for room in [0, 11, 12, 15, 16, needed - 1, needed, needed + 1, any] {
+    let near = draw::near(g, needed);
+    for room in [0, 11, 12, 15, 16, near, needed - 1, needed, needed + 1, any] {
         let filler = g.byte();
         end.clone().send(&what, time, room, filler, counts)?;
         with_noise(g, &mut end.clone(), &what, time, room)?;
@@ -54,14 +56,7 @@ fn with_noise(
     let (needed, payload) = to_send(what).raw();
     let outgoing = noisy(g, needed);
     let sent = raw_send(end.ours.raw(), &mut ours, payload, outgoing, time);
-    let answer = end.second.send(what, &mut second);
-    let answer = match answer {
-        Ok(size) => raw::Sent { refusal: 0, size },
-        Err(refusal) => raw::Sent {
-            refusal: refusal.number(),
-            size: 0,
-        },
-    };
+    let answer = both::raw_sent(end.second.send(what, &mut second));
     let call = || format!("send, room {room}: {outgoing:02x?}, payload {payload:02x?}");
     same("a send with noise", call, sent, answer)?;
     same("a buffer sent with noise", call, &ours, &second)?;
@@ -152,7 +147,7 @@ pub fn random_outgoing(g: &mut Generator) -> raw::Outgoing {
 fn long(g: &mut Generator, end: &End, peer: &End, counts: &mut Counts) -> Compared {
     static BYTES: OnceLock<Vec<u8>> = OnceLock::new();
     let bytes = BYTES.get_or_init(|| Generator::new(9).bytes(LONGEST_BODY + 16));
-    let beyond = g.pick(&[0, 1, 4, 16]);
+    let beyond = g.pick(&[0, 0, 1, 4, 16]);
     let (number, tl2) = (77, true);
     let message = match (end.side, draw::coin(g)) {
         (reference::message::Side::Client, _) => Message::Invoke(Invoke {
@@ -173,12 +168,14 @@ fn long(g: &mut Generator, end: &End, peer: &End, counts: &mut Counts) -> Compar
         ),
     };
     let what = Outgoing::Message(message);
-    let room = g.pick(&[0, LONGEST_BODY + 16]);
+    // The longest packet has a zero behind it on padded links.
+    let room = g.pick(&[0, LONGEST_BODY + 16, LONGEST_BODY + 17, LONGEST_BODY + 17]);
     let sent = end.clone().send(&what, FIRST_NUMBER, room, 0xee, counts)?;
     if let Some(packet) = sent {
         let mut peer = peer.clone();
-        peer.receive(&packet[..packet.len() - 1], 0, counts)?;
-        peer.receive(&packet, 0, counts)?;
+        let bytes = [padding::words(g, &peer), packet].concat();
+        peer.receive(&bytes[..bytes.len() - 1], 0, counts)?;
+        peer.receive(&bytes, 0, counts)?;
     }
     Ok(())
 }

@@ -18,6 +18,9 @@ const AROUND_BODY: usize = 16;
 const LONGEST: usize = 16_777_215;
 const LONGEST_IN_OPENING: usize = 1023;
 
+/// What a packet with the zeros behind it is a multiple of.
+const ALIGNED: usize = 4;
+
 /// The length of the packet that `bytes` begin with, once four are there.
 pub fn length(bytes: &[u8], in_opening: bool) -> Result<Option<usize>, Refusal> {
     if bytes.len() < 4 {
@@ -77,4 +80,18 @@ pub fn whole(number: u32, packet_type: u32, body: &[u8], checksum: Polynomial) -
     let sum = checksum.of(&packet);
     packet.extend(sum.to_le_bytes());
     packet
+}
+
+/// How many zeros follow a packet of this length where they do.
+pub fn zeros(length: usize) -> usize {
+    length.next_multiple_of(ALIGNED) - length
+}
+
+/// At the front of `buffer`, whose other bytes stay; 16 leaves all of them.
+pub(super) fn put(buffer: &mut [u8], bytes: &[u8]) -> Result<(), Refusal> {
+    buffer
+        .get_mut(..bytes.len())
+        .ok_or(Refusal::BufferTooSmall)?
+        .copy_from_slice(bytes);
+    Ok(())
 }

@@ -2,13 +2,14 @@
 
 use super::opening::{self, Nonce, Stage};
 use super::packet::{self, Front, HANDSHAKE, NONCE, PING, PONG};
-use super::{Link, Received};
+use super::{padding, Link, Received};
 use crate::message::Side;
 use crate::refusal::Refusal;
 
 impl Link {
-    /// Looks at the lent bytes from their front. In order: 20, 22, 1, 3, 2, 4,
-    /// 5, 6, then 7, 8, 24, 9, 10 or 17, 21; all but 20 and 22 close the link.
+    /// Looks at the lent bytes from their front. In order: 20, 22, 26, 1, 3, 2,
+    /// 4, 5, 6, 25, then 7, 8, 24, 9, 10 or 17, 21; all but 20 and 22 close the
+    /// link.
     pub fn receive(&mut self, bytes: &[u8], our_time: u32) -> Result<Received, Refusal> {
         let peer = match self.settings.side {
             Side::Client => Side::Server,
@@ -20,7 +21,14 @@ impl Link {
         received
     }
 
+    /// The words before a packet, then the packet as if they were not there.
     fn take(&mut self, bytes: &[u8], our_time: u32) -> Result<Received, Refusal> {
+        let words = self.words_before(bytes)?;
+        let received = self.take_packet(&bytes[words..], our_time)?;
+        Ok(received.behind(words))
+    }
+
+    fn take_packet(&mut self, bytes: &[u8], our_time: u32) -> Result<Received, Refusal> {
         let Some(length) = packet::length(bytes, self.stage != Stage::Open)? else {
             return Ok(Received::Wait(4 - bytes.len()));
         };
@@ -28,15 +36,18 @@ impl Link {
             return Ok(Received::Wait(12 - bytes.len()));
         };
         self.judge_front(front)?;
-        let Some(packet) = bytes.get(..length) else {
-            return Ok(Received::Wait(length - bytes.len()));
+        let size = length + self.zeros_behind(length);
+        let Some(whole) = bytes.get(..size) else {
+            return Ok(Received::Wait(size - bytes.len()));
         };
+        let (packet, zeros) = whole.split_at(length);
         let body = packet::checked_body(packet, self.checksum)?;
+        padding::judge_zeros(zeros)?;
         let clock = self.accept(front.packet_type, body.of(packet), our_time)?;
         self.incoming = self.incoming.wrapping_add(1);
         Ok(Received::Packet {
             packet_type: front.packet_type,
-            consumed: length,
+            consumed: size,
             body,
             clock,
         })

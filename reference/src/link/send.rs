@@ -6,8 +6,9 @@ use crate::message::{self, Side};
 use crate::refusal::Refusal;
 
 impl Link {
-    /// Writes the packet at the front of `buffer` and hands back its size. In
-    /// order: 20, 22, 5, 21, 19, 12, 15, 2, 16; none closes or moves the link.
+    /// Writes the packet at the front of `buffer`, on padded links with the
+    /// zeros behind it, and hands back the size of all that. In order: 20, 22,
+    /// 5, 21, 19, 12, 15, 2, 16; none closes or moves the link.
     pub fn send(&mut self, outgoing: &Outgoing, buffer: &mut [u8]) -> Result<usize, Refusal> {
         self.is_turn_of(self.settings.side)?;
         let packet_type = outgoing.packet_type();
@@ -15,11 +16,10 @@ impl Link {
             return Err(Refusal::TypeNotNow);
         }
         let body = self.body(outgoing)?;
-        let packet = packet::whole(self.outgoing, packet_type, &body, self.checksum);
-        buffer
-            .get_mut(..packet.len())
-            .ok_or(Refusal::BufferTooSmall)?
-            .copy_from_slice(&packet);
+        let mut packet = packet::whole(self.outgoing, packet_type, &body, self.checksum);
+        packet.resize(packet.len() + self.zeros_behind(packet.len()), 0);
+        packet::put(buffer, &packet)?;
+        self.count_written(packet.len());
         self.sent(outgoing);
         Ok(packet.len())
     }

@@ -1,3 +1,5 @@
+mod padded;
+mod padded_sending;
 mod versions;
 
 use super::*;

@@ -7,7 +7,8 @@
 //! has both checksums of the whole lent buffer, since a checksum over a packet
 //! that ends with the same one is the same for every packet. Op 3 is a link set
 //! up with every setting: see `link_settings`; if that is refused, the newest
-//! link stays as it was. A line ends with ` closed` if the newest link is
+//! link stays as it was. Op 5 flushes: room (4 bytes); its line is like that of
+//! a send. Op 4 is kept free. A line ends with ` closed` if the newest link is
 //! closed after the op.
 //!
 //! The conversations of a later request come behind all earlier ones, whose
@@ -17,6 +18,7 @@ use super::link_bodies;
 use super::link_closing;
 use super::link_fronts;
 use super::link_openings;
+use super::link_padded;
 use super::link_pings;
 use super::link_random;
 use super::link_sending::Sending;
@@ -34,6 +36,7 @@ pub const NEW: u8 = 0;
 pub const RECEIVE: u8 = 1;
 pub const SEND: u8 = 2;
 pub const SET_UP: u8 = 3;
+pub const FLUSH: u8 = 5;
 
 pub fn input() -> Vec<u8> {
     let mut generator = Generator::new(0x11_4B);
@@ -46,6 +49,7 @@ pub fn input() -> Vec<u8> {
     link_closing::push(&mut records);
     link_random::push(&mut records, &mut generator);
     link_versions::push(&mut records);
+    link_padded::push(&mut records);
     records
 }
 
@@ -65,6 +69,7 @@ pub fn output(records: &[u8]) -> Vec<u8> {
             }),
             (RECEIVE, Some(link)) => receive_line(link, &mut records),
             (SEND, Some(link)) => send_line(link, &mut records),
+            (FLUSH, Some(link)) => flush_line(link, &mut records),
             _ => unreachable!("op {op}, or no link before it"),
         };
         lines += &line.unwrap_or_else(|refusal| format!("no {}", refusal.number()));
@@ -105,8 +110,18 @@ fn send_line(link: &mut Link, records: &mut Records) -> Result<String, Refusal> 
     let (sending, room) = Sending::take(records);
     let mut buffer = vec![FILLING; room];
     let size = link.send(&sending.outgoing(), &mut buffer)?;
-    let (one, other) = (CRC32.of(&buffer), CRC32C.of(&buffer));
-    Ok(format!("sent {size} {one:08x} {other:08x}"))
+    Ok(written_line("sent", size, &buffer))
+}
+
+fn flush_line(link: &mut Link, records: &mut Records) -> Result<String, Refusal> {
+    let mut buffer = vec![FILLING; records.u32() as usize];
+    let size = link.flush(&mut buffer)?;
+    Ok(written_line("flush", size, &buffer))
+}
+
+fn written_line(op: &str, size: usize, buffer: &[u8]) -> String {
+    let (one, other) = (CRC32.of(buffer), CRC32C.of(buffer));
+    format!("{op} {size} {one:08x} {other:08x}")
 }
 
 #[cfg(test)]
@@ -125,11 +140,11 @@ mod tests {
             text.lines().filter(words).count()
         };
         let by_receive = (1..=10).chain([17, 20, 21, 22]);
-        for refusal in by_receive.chain([12, 15, 16, 19, 24, 30]) {
+        for refusal in by_receive.chain([12, 15, 16, 19, 24, 25, 26, 30]) {
             let part = format!("no {refusal} ");
             assert!(count(&part) >= 20, "{part}: {}", count(&part));
         }
-        for part in ["link ", "wait ", "packet ", "sent "] {
+        for part in ["link ", "wait ", "packet ", "sent ", "flush "] {
             assert!(count(part) >= 500, "{part}: {}", count(part));
         }
     }
@@ -139,6 +154,11 @@ mod tests {
     const BASE_INPUT: (usize, u32) = (1_603_482, 0x6E4E_8C57);
     const BASE_OUTPUT: (usize, u32) = (483_550, 0xF642_C1D6);
 
+    /// And before links were padded.
+    const VERSIONS_INPUT: (usize, u32) = (1_853_919, 0x26ED_BBE4);
+    const VERSIONS_OUTPUT: (usize, u32) = (570_585, 0x72C9_63E4);
+    const VERSIONS_LINES: usize = 31_986;
+
     #[test]
     fn the_base_stays_in_front() {
         let input = input();
@@ -146,6 +166,29 @@ mod tests {
             assert_eq!(CRC32.of(&bytes[..size]), sum);
         }
         assert_eq!(input[BASE_INPUT.0], SET_UP);
+    }
+
+    #[test]
+    fn lowest_versions_stay_behind_the_base() {
+        let (input, output) = (input(), output(&input()));
+        for (bytes, (size, sum)) in [(&input, VERSIONS_INPUT), (&output, VERSIONS_OUTPUT)] {
+            assert_eq!(CRC32.of(&bytes[..size]), sum);
+        }
+        assert_eq!(input[VERSIONS_INPUT.0], SET_UP);
+        let before = &output[..VERSIONS_OUTPUT.0];
+        let lines = before.iter().filter(|byte| **byte == b'\n').count();
+        assert_eq!(lines, VERSIONS_LINES);
+    }
+
+    /// A record of each setting and of a flush, byte by byte.
+    #[test]
+    fn the_records_of_a_padded_link() {
+        let set_up = |padded| [SET_UP, 0, 1, 0, padded, 0, 0, 0, 0];
+        let flush = [FLUSH, 2, 0, 0, 0];
+        let records = [&set_up(1)[..], &flush, &set_up(0), &flush].concat();
+        let (one, other) = (CRC32.of(&[FILLING; 2]), CRC32C.of(&[FILLING; 2]));
+        let line = format!("link\nflush 0 {one:08x} {other:08x}\n");
+        assert_eq!(output(&records), line.repeat(2).into_bytes());
     }
 
     #[test]
@@ -179,6 +222,6 @@ mod tests {
 
     #[test]
     fn within_the_agreed_size() {
-        assert!(input().len() <= 2_000_000, "{}", input().len());
+        assert!(input().len() <= 4_000_000, "{}", input().len());
     }
 }

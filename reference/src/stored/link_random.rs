@@ -40,7 +40,7 @@ fn traffic(records: &mut Vec<u8>, generator: &mut Generator) {
 }
 
 /// Mostly messages of the sender's way; Pings, and Pongs that may not be owed.
-fn draw<'a>(generator: &mut Generator, sender: Side, bytes: &'a [u8]) -> Sending<'a> {
+pub fn draw<'a>(generator: &mut Generator, sender: Side, bytes: &'a [u8]) -> Sending<'a> {
     let kind = match (sender, generator.below(10)) {
         (_, 0) => return Sending::ping(generator.draw()),
         (_, 1 | 2) => return Sending::pong(),

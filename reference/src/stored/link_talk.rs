@@ -1,13 +1,13 @@
 //! A conversation in the making: the link whose calls are stored, and a peer
 //! that gives the bytes it receives.
 
-use super::link_cases::{NEW, RECEIVE, SEND, SET_UP};
+use super::link_cases::{FLUSH, NEW, RECEIVE, SEND, SET_UP};
 use super::link_sending::Sending;
 use super::link_settings;
 use super::message_cases::LONGEST;
 use super::records::{self, other, push_run, Draft};
 use crate::checksum::Polynomial;
-use crate::link::{handshake_body, nonce_body, packet, Link, Settings, OUR_VERSION};
+use crate::link::{handshake_body, nonce_body, packet, Link, Received, Settings, OUR_VERSION};
 use crate::message::Side;
 use crate::refusal::Refusal;
 
@@ -29,6 +29,8 @@ pub struct Talk {
     pub time: u32,
     link: Link,
     peer: Link,
+    /// Words of our flushes, which reach the peer before our next packet.
+    words: Vec<u8>,
     /// Packets of the opening that were exchanged.
     opened: usize,
     records: Vec<u8>,
@@ -56,6 +58,7 @@ impl Talk {
             time: TIME,
             link: link(ours),
             peer: link(theirs),
+            words: Vec::new(),
             opened: 0,
             records: record,
         }
@@ -131,9 +134,29 @@ impl Talk {
         sending.push(&mut self.records, room);
         let mut buffer = vec![0; room];
         if let Ok(size) = self.link.send(&sending.outgoing(), &mut buffer) {
+            self.words.extend(&buffer[..size]);
             // A peer that a conversation has left behind refuses; let it.
-            let _ = self.peer.receive(&buffer[..size], self.time);
+            let _ = self.peer.receive(&self.words, self.time);
+            self.words.clear();
         }
+    }
+
+    /// Has the link flush into a buffer of `room` bytes.
+    pub fn flush(&mut self, room: usize) {
+        self.records.push(FLUSH);
+        self.records.extend((room as u32).to_le_bytes());
+        let mut buffer = vec![0; room];
+        if let Ok(size) = self.link.flush(&mut buffer) {
+            self.words.extend(&buffer[..size]);
+        }
+    }
+
+    /// The words that the peer writes now; none if it is closed.
+    pub fn peer_flushes(&mut self) -> Vec<u8> {
+        let mut buffer = vec![0; 16];
+        let size = self.peer.flush(&mut buffer).unwrap_or(0);
+        buffer.truncate(size);
+        buffer
     }
 
     /// The bytes of a packet that the peer sends now.
@@ -165,17 +188,45 @@ impl Talk {
     /// Has the link look at these bytes. Refused or not: the stored output
     /// will say.
     pub fn receive(&mut self, bytes: &[u8]) {
+        self.lend(bytes);
+    }
+
+    /// How many bytes the packet took that the link found, if it found one.
+    fn lend(&mut self, bytes: &[u8]) -> Option<usize> {
         self.records.push(RECEIVE);
         self.records.extend(self.time.to_le_bytes());
         push_run(&mut self.records, bytes);
-        let _ = self.link.receive(bytes, self.time);
+        match self.link.receive(bytes, self.time) {
+            Ok(Received::Packet { consumed, .. }) => Some(consumed),
+            _ => None,
+        }
+    }
+
+    /// These bytes, then what is left of them after each packet, until the
+    /// link waits or refuses. Hands back what is left then.
+    pub fn receive_all<'a>(&mut self, mut bytes: &'a [u8]) -> &'a [u8] {
+        while let Some(consumed) = self.lend(bytes) {
+            bytes = &bytes[consumed..];
+        }
+        bytes
+    }
+
+    /// Whether the link would wait for more than these bytes.
+    pub fn would_wait(&self, bytes: &[u8]) -> bool {
+        let received = self.link.clone().receive(bytes, self.time);
+        matches!(received, Ok(Received::Wait(_)))
     }
 
     /// A packet with the number and checksum that the link expects, whatever
-    /// the peer would send.
+    /// the peer would send, and with the zeros that it expects behind it.
     pub fn forged(&self, packet_type: u32, body: &[u8]) -> Vec<u8> {
         let (number, checksum) = self.expected();
-        packet::whole(number, packet_type, body, checksum)
+        let mut packet = packet::whole(number, packet_type, body, checksum);
+        let state = self.link.state();
+        if state.settings.padded && state.stage >= 2 {
+            packet.resize(packet.len() + packet::zeros(packet.len()), 0);
+        }
+        packet
     }
 
     pub fn receive_forged(&mut self, packet_type: u32, body: &[u8]) {

@@ -26,6 +26,7 @@ extern "C" {
         outgoing: Outgoing,
         moment: Moment,
     ) -> Sent;
+    pub fn relay_flush(link: *mut Link, buf: *mut u8, room: usize) -> Sent;
 
     pub fn relay_fresh(first: PublisherNumber) -> Started;
     pub fn relay_ask(table: *mut Table, link: u8, number: FrontNumber, publisher: u8) -> Asked;

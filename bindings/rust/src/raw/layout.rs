@@ -49,7 +49,8 @@ fn structs() -> Vec<String> {
             Settings {
                 server,
                 allows,
-                lowest
+                lowest,
+                padded
             }
         ),
         lines!(relay_moment, Moment { time }),
@@ -61,6 +62,7 @@ fn structs() -> Vec<String> {
                 crc32c,
                 version,
                 stage,
+                phase,
                 sends,
                 gets,
                 awaits,

@@ -25,6 +25,7 @@ pub struct Settings {
     pub server: bool,
     pub allows: bool,
     pub lowest: u8,
+    pub padded: bool,
 }
 
 #[repr(C)]
@@ -41,6 +42,7 @@ pub struct Link {
     pub crc32c: bool,
     pub version: u8,
     pub stage: u8,
+    pub phase: u8,
     pub sends: u32,
     pub gets: u32,
     pub awaits: bool,

@@ -4,6 +4,7 @@
 
 mod links;
 mod messages;
+mod padded;
 mod sends;
 mod settings;
 mod tables;
@@ -40,6 +41,7 @@ const fn settings(server: bool, allows: bool) -> Settings {
         server,
         allows,
         lowest: 0,
+        padded: false,
     }
 }
 
@@ -70,4 +72,8 @@ fn send(link: &mut Link, buf: &mut [u8], payload: &[u8], outgoing: Outgoing) -> 
             moment,
         )
     }
+}
+
+fn flush(link: &mut Link, buf: &mut [u8]) -> Sent {
+    unsafe { relay_flush(link, buf.as_mut_ptr(), buf.len()) }
 }

@@ -20,6 +20,8 @@ pub struct Publisher {
 }
 
 pub struct Options {
+    /// Of the links to all front ends.
+    pub front: Settings,
     pub publishers: [Publisher; PUBLISHERS as usize],
     /// Between two attempts to reach a publisher.
     pub retry: Duration,

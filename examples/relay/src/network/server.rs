@@ -29,8 +29,9 @@ pub struct Server {
 
 impl Server {
     pub fn new(options: &Options, inputs: SyncSender<Input>) -> io::Result<Server> {
+        let publishers = options.publishers.map(|publisher| publisher.settings);
         Ok(Server {
-            core: Core::new(options.publishers.map(|publisher| publisher.settings)),
+            core: Core::new(options.front, publishers),
             connections: HashMap::new(),
             inputs,
             next_serial: 0,

@@ -14,8 +14,9 @@ use std::{io, thread};
 const CHUNK: usize = 65_536;
 const WRITE_TIMEOUT: Duration = Duration::from_secs(10);
 
-/// The most bytes that may wait for a peer: two of the longest packets.
-const MOST_QUEUED: usize = 2 * 16_777_215;
+/// The most bytes that may wait for a peer: two of the longest packets, with
+/// the zero and the words that may stand behind each on a padded link.
+const MOST_QUEUED: usize = 2 * (16_777_215 + 1 + 12);
 
 /// Who reads or writes, and whom it tells.
 #[derive(Clone)]

@@ -3,6 +3,8 @@
 mod connections;
 #[path = "../other_end/mod.rs"]
 mod other_end;
+mod padded;
+mod padding_faults;
 mod repeated;
 mod requests;
 #[path = "../unreadable/mod.rs"]
@@ -14,12 +16,16 @@ mod world;
 use reference::message::{Invoke, Message, Outcome};
 
 fn ask(number: i64, actor: i64) -> Message<&'static [u8]> {
+    ask_with(number, actor, b"question")
+}
+
+fn ask_with(number: i64, actor: i64, payload: &[u8]) -> Message<&[u8]> {
     Message::Invoke(Invoke {
         number,
         actor: Some(actor),
         timeout: None,
         tl2: false,
-        payload: b"question",
+        payload,
     })
 }
 

@@ -2,6 +2,7 @@
 //! end of each.
 
 use crate::other_end::{clock, Got, OtherEnd};
+use reference::link::Outgoing;
 use reference::message::{Invoke, Message, Side};
 use relay::{NetPid, Settings, LINKS, PUBLISHERS};
 use relay_example::core::Core;
@@ -26,6 +27,8 @@ type Heard = Message<Vec<u8>>;
 
 pub struct World {
     pub core: Core,
+    /// Whether the links to the front ends are padded, and those to each publisher.
+    padded: (bool, [bool; PUBLISHERS as usize]),
     fronts: Vec<(OtherEnd, Vec<Heard>)>,
     publishers: Vec<(OtherEnd, Vec<Heard>)>,
     /// Whom the core closed, in order.
@@ -41,13 +44,19 @@ impl World {
 
     /// With these settings of the links to the publishers.
     pub fn with_publishers(settings: [Settings; PUBLISHERS as usize]) -> World {
+        World::with(settings::FRONT, settings)
+    }
+
+    /// With these settings of the links to the front ends and to the publishers.
+    pub fn with(front: Settings, publishers: [Settings; PUBLISHERS as usize]) -> World {
         let ends = |count, side| {
             (0..count)
                 .map(|_| (OtherEnd::new(side, true), vec![]))
                 .collect()
         };
         let mut world = World {
-            core: Core::new(settings),
+            core: Core::new(front, publishers),
+            padded: (front.padded, publishers.map(|settings| settings.padded)),
             fronts: ends(LINKS, Side::Client),
             publishers: ends(PUBLISHERS, Side::Server),
             closed: Vec::new(),
@@ -71,11 +80,11 @@ impl World {
 
     /// A new connection, opened.
     pub fn connect(&mut self, peer: Peer) {
-        let side = match peer {
-            Peer::Front(_) => Side::Client,
-            Peer::Publisher(_) => Side::Server,
+        let (side, padded) = match peer {
+            Peer::Front(_) => (Side::Client, self.padded.0),
+            Peer::Publisher(publisher) => (Side::Server, self.padded.1[usize::from(publisher)]),
         };
-        assert!(self.opens(peer, OtherEnd::new(side, true)));
+        assert!(self.opens(peer, OtherEnd::with_padded(side, true, padded)));
     }
 
     /// A new connection with this other end; whether a Handshake came there.
@@ -86,9 +95,15 @@ impl World {
         self.end(peer).0.open
     }
 
-    /// Tells the core, and passes bytes to and fro until all is quiet.
+    /// Tells the core alone.
+    pub fn handle(&mut self, event: Event) -> Vec<Action> {
+        self.core.handle(event, clock())
+    }
+
+    /// Tells the core, and passes bytes to and fro until all is quiet. What went
+    /// over a padded link ends at a block's end then.
     pub fn tell(&mut self, event: Event) {
-        let mut actions = VecDeque::from(self.core.handle(event, clock()));
+        let mut actions = VecDeque::from(self.handle(event));
         while let Some(action) = actions.pop_front() {
             match action {
                 Action::Send(peer, packet) => {
@@ -98,18 +113,25 @@ impl World {
                             end.1.push(message);
                         }
                     }
-                    let bytes = std::mem::take(&mut end.0.output);
+                    let bytes = hand_over(&mut end.0);
                     if self.silent != Some(peer) {
-                        actions.extend(self.core.handle(Event::Bytes(peer, &bytes), clock()));
+                        actions.extend(self.handle(Event::Bytes(peer, &bytes)));
                     }
                 }
                 Action::Close(peer) => self.closed.push(peer),
             }
         }
+        let fronts = (0..LINKS).map(Peer::Front);
+        for peer in fronts.chain((0..PUBLISHERS).map(Peer::Publisher)) {
+            // A fault of theirs ends a connection anywhere.
+            if !self.closed.contains(&peer) {
+                assert_eq!(self.end(peer).0.past_blocks(), 0, "{peer:?}");
+            }
+        }
     }
 
     fn flush(&mut self, peer: Peer) {
-        let bytes = std::mem::take(&mut self.end(peer).0.output);
+        let bytes = hand_over(&mut self.end(peer).0);
         self.tell(Event::Bytes(peer, &bytes));
     }
 
@@ -125,8 +147,16 @@ impl World {
 
     /// The packet of a message that the test delivers itself.
     pub fn front_bytes(&mut self, link: u8, message: Message<&[u8]>) -> Vec<u8> {
-        let end = &mut self.end(Peer::Front(link)).0;
-        end.send_message(message);
+        self.bytes(Peer::Front(link), Outgoing::Message(message))
+    }
+
+    pub fn publisher_bytes(&mut self, publisher: u8, message: Message<&[u8]>) -> Vec<u8> {
+        self.bytes(Peer::Publisher(publisher), Outgoing::Message(message))
+    }
+
+    pub fn bytes(&mut self, peer: Peer, outgoing: Outgoing) -> Vec<u8> {
+        let end = &mut self.end(peer).0;
+        end.send(outgoing);
         std::mem::take(&mut end.output)
     }
 
@@ -150,6 +180,12 @@ impl World {
     pub fn publisher_got(&mut self, publisher: u8) -> Vec<Heard> {
         std::mem::take(&mut self.end(Peer::Publisher(publisher)).1)
     }
+}
+
+/// All that is to go to the core now, flushed.
+pub fn hand_over(end: &mut OtherEnd) -> Vec<u8> {
+    end.flush();
+    std::mem::take(&mut end.output)
 }
 
 /// The number of an invoke.

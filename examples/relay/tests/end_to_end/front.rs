@@ -38,6 +38,8 @@ const ENDINGS: [Ending; 4] = [
 
 pub struct Front {
     pub front: u8,
+    /// Whether its link is padded.
+    padded: bool,
     pub life: u32,
     pub next_serial: u64,
     pub generator: Generator,
@@ -57,9 +59,16 @@ pub struct Life {
 }
 
 /// Plays front end `front`; hands back its counts, or the first fault.
-pub fn play(front: u8, relay: SocketAddr, seed: u64, deadline: Instant) -> Result<Tally, String> {
+pub fn play(
+    front: u8,
+    padded: bool,
+    relay: SocketAddr,
+    seed: u64,
+    deadline: Instant,
+) -> Result<Tally, String> {
     let mut player = Front {
         front,
+        padded,
         life: 0,
         next_serial: 0,
         generator: Generator::new(seed ^ u64::from(front) << 32),
@@ -98,7 +107,8 @@ impl Front {
     fn connect(&mut self, relay: SocketAddr, deadline: Instant) -> Result<Life, String> {
         while Instant::now() < deadline {
             let stream = TcpStream::connect(relay).map_err(|error| format!("connect: {error}"))?;
-            if let Some(socket) = Socket::open(stream, Side::Client, &mut self.generator)? {
+            let opened = Socket::open(stream, Side::Client, self.padded, &mut self.generator);
+            if let Some(socket) = opened? {
                 self.tally.add("connections", 1);
                 // Some want more than their share, so that the table is full.
                 let wanted = match self.front % 8 {
@@ -141,7 +151,7 @@ impl Front {
         if !life.cancels.is_empty() && self.generator.below(4) == 0 {
             self.ping(life);
         }
-        life.socket.flush(&mut self.generator);
+        life.socket.flush_or_not(&mut self.generator);
         for got in life.socket.pump()? {
             self.got(life, got)?;
         }
@@ -191,7 +201,7 @@ impl Front {
             let before = output.len();
             life.socket.end.send_message(Message::Cancel(1));
             life.socket.end.output.truncate(before + 13);
-            life.socket.flush(&mut self.generator);
+            life.socket.write_out(&mut self.generator);
         }
         self.close(life, "link dropped");
     }
@@ -231,6 +241,7 @@ impl Front {
             self.turn(&mut life, deadline)?;
         }
         if life.claims.has_two(number) {
+            life.socket.check_end()?;
             self.close(life, "link repeated");
             return Ok(());
         }
@@ -241,7 +252,8 @@ impl Front {
     /// No more requests; the last answers are waited for.
     fn finish(&mut self, mut life: Life, deadline: Instant) -> Result<(), String> {
         life.socket.end.send_message(Message::ClientFin);
-        while life.claims.count() > 0 || life.awaited.is_some() {
+        let is_busy = |life: &Life| life.claims.count() > 0 || life.awaited.is_some();
+        while is_busy(&life) || life.socket.end.past_blocks() > 0 {
             self.step(&mut life, deadline)?;
         }
         self.close(life, "link finished");

@@ -1,10 +1,12 @@
 //! End to end, over loopback: the relay's program, 32 front ends and eight
 //! publishers that the second program plays. Answers come in any order, late,
 //! twice, unreadable or never; requests are cancelled; connections break on both
-//! sides; packets are cut anywhere. Each front end checks each answer.
+//! sides; packets are cut anywhere. Each front end checks each answer. There is
+//! a run for each choice of the sides whose links are padded.
 //!
-//! Beside that run, with its own relay each, what happens step by step: to old
-//! publishers, to what cannot be read, to slow readers and to slow openings.
+//! Beside these runs, with its own relay each, what happens step by step: to old
+//! publishers, to what cannot be read, to slow readers, to slow openings, and on
+//! links that are padded at both ends or at one.
 
 mod answering;
 mod asking;
@@ -14,6 +16,7 @@ mod old_publisher;
 mod openings;
 #[path = "../other_end/mod.rs"]
 mod other_end;
+mod padded;
 mod process;
 mod publisher;
 mod request;
@@ -27,7 +30,6 @@ mod unreadable_messages;
 
 use process::RelayProcess;
 use publisher::Publisher;
-use std::net::SocketAddr;
 use std::sync::atomic::{AtomicBool, Ordering};
 use std::sync::Arc;
 use std::thread;
@@ -44,16 +46,52 @@ const LOWEST: [u8; PUBLISHERS as usize] = [0, 1, 2, 2, 0, 1, 2, 2];
 /// Everybody gives up then, with what was still open.
 const PATIENCE: Duration = Duration::from_secs(40);
 
+/// The sides whose links are padded: to all front ends, to all publishers.
+#[derive(Clone, Copy, Debug)]
+struct Padded {
+    fronts: bool,
+    publishers: bool,
+}
+
 #[test]
 fn every_answer_finds_its_request() {
+    run(Padded {
+        fronts: false,
+        publishers: false,
+    });
+}
+
+#[test]
+fn over_padded_links_too() {
+    run(Padded {
+        fronts: true,
+        publishers: true,
+    });
+}
+
+#[test]
+fn with_padded_links_to_publishers_alone_too() {
+    run(Padded {
+        fronts: false,
+        publishers: true,
+    });
+}
+
+#[test]
+fn with_padded_links_to_front_ends_alone_too() {
+    run(Padded {
+        fronts: true,
+        publishers: false,
+    });
+}
+
+fn run(padded: Padded) {
     let deadline = Instant::now() + PATIENCE;
     let seed = std::env::var("SEED").map_or(SEED, |seed| seed.parse().expect("a number"));
     let publishers: Vec<Publisher> = (0..PUBLISHERS)
-        .map(|publisher| Publisher::new(publisher, seed))
+        .map(|publisher| Publisher::new(publisher, padded.publishers, seed))
         .collect();
-    let addresses = publishers.iter().map(Publisher::address);
-    let words = addresses.zip(LOWEST).map(word).collect::<Vec<_>>();
-    let relay = RelayProcess::start("--retry-ms 50 --ping-ms 2000", &words);
+    let relay = start(padded, &publishers);
 
     let done = Arc::new(AtomicBool::new(false));
     let publishers: Vec<_> = publishers
@@ -64,8 +102,9 @@ fn every_answer_finds_its_request() {
         })
         .collect();
     let address = relay.address();
+    let play = move |front| front::play(front, padded.fronts, address, seed, deadline);
     let fronts: Vec<_> = (0..FRONTS)
-        .map(|front| thread::spawn(move || front::play(front, address, seed, deadline)))
+        .map(|front| thread::spawn(move || play(front)))
         .collect();
 
     let mut tally = Tally::default();
@@ -78,16 +117,26 @@ fn every_answer_finds_its_request() {
         tally.join(thread, &mut faults);
     }
     let counts = relay.counts_when_quiet();
-    println!("front ends and publishers:\n{tally}");
-    println!("the relay:\n{counts}");
+    println!("{padded:?}, front ends and publishers:\n{tally}");
+    println!("{padded:?}, the relay:\n{counts}");
     assert!(faults.is_empty(), "{}", faults.join("\n"));
     check(&tally, &counts);
     check_all_happened(&tally, &counts);
 }
 
-/// A publisher on the relay's command line.
-fn word((address, lowest): (SocketAddr, u8)) -> String {
-    format!("{address},lowest={lowest}")
+fn start(padded: Padded, publishers: &[Publisher]) -> RelayProcess {
+    let words = publishers.iter().zip(LOWEST).map(|(publisher, lowest)| {
+        let address = publisher.address();
+        match padded.publishers {
+            true => format!("{address},lowest={lowest},padded=yes"),
+            false => format!("{address},lowest={lowest}"),
+        }
+    });
+    let options = match padded.fronts {
+        true => "--retry-ms 50 --ping-ms 2000 --padded-fronts",
+        false => "--retry-ms 50 --ping-ms 2000",
+    };
+    RelayProcess::start(options, &words.collect::<Vec<_>>())
 }
 
 /// How a request of a front end ends.

@@ -5,12 +5,16 @@ use std::fs;
 use std::io::{BufRead, BufReader, Write};
 use std::net::SocketAddr;
 use std::process::{Child, ChildStdin, ChildStdout, Command, Stdio};
+use std::sync::mpsc::{channel, RecvTimeoutError, Sender};
 use std::sync::{Arc, Mutex};
 use std::thread;
 use std::time::{Duration, Instant};
 
-/// If even the tests' own deadlines hang, the process ends then.
+/// If even a test's own deadlines hang, all ends then.
 const HARD_LIMIT: Duration = Duration::from_secs(55);
+
+/// Every relay of this process, so that none outlives it.
+static RELAYS: Mutex<Vec<Arc<Mutex<Child>>>> = Mutex::new(Vec::new());
 
 /// What a process takes of the machine.
 #[derive(Clone, Copy, Debug)]
@@ -21,13 +25,14 @@ pub struct Size {
 
 pub struct RelayProcess {
     child: Arc<Mutex<Child>>,
+    _in_use: Sender<()>,
     pipes: Mutex<(ChildStdin, BufReader<ChildStdout>)>,
     address: SocketAddr,
 }
 
 impl RelayProcess {
-    /// With these options, and eight words for the publishers. It, and this
-    /// process, end after the hard limit if the test still runs then.
+    /// With these options, and eight words for the publishers. If its test still
+    /// runs after the hard limit, this process ends, and all relays with it.
     pub fn start(options: &str, publishers: &[String]) -> RelayProcess {
         let mut child = Command::new(env!("CARGO_BIN_EXE_relay"))
             .args(options.split_whitespace())
@@ -40,11 +45,13 @@ impl RelayProcess {
         let stdin = child.stdin.take().expect("its input");
         let mut stdout = BufReader::new(child.stdout.take().expect("its output"));
         let child = Arc::new(Mutex::new(child));
-        end_after(HARD_LIMIT, &child);
+        RELAYS.lock().expect("the relays").push(Arc::clone(&child));
+        let in_use = limit_use();
         let line = line(&mut stdout);
         let address = line.strip_prefix("listening on ").expect("its address");
         RelayProcess {
             child,
+            _in_use: in_use,
             pipes: Mutex::new((stdin, stdout)),
             address: address.parse().expect("its address"),
         }
@@ -99,14 +106,18 @@ impl Drop for RelayProcess {
     }
 }
 
-fn end_after(limit: Duration, child: &Arc<Mutex<Child>>) {
-    let child = Arc::clone(child);
+/// The use ends with what is handed back; if that takes too long, all ends.
+fn limit_use() -> Sender<()> {
+    let (in_use, end_of_use) = channel::<()>();
     thread::spawn(move || {
-        thread::sleep(limit);
-        eprintln!("the test took longer than {limit:?}");
-        end(&child);
-        std::process::exit(1);
+        if end_of_use.recv_timeout(HARD_LIMIT) == Err(RecvTimeoutError::Timeout) {
+            eprintln!("a test took longer than {HARD_LIMIT:?}");
+            let relays = RELAYS.lock().expect("the relays");
+            relays.iter().for_each(|child| end(child));
+            std::process::exit(1);
+        }
     });
+    in_use
 }
 
 fn end(child: &Mutex<Child>) {

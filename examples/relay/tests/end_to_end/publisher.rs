@@ -19,6 +19,8 @@ const FIN_PATIENCE: Duration = Duration::from_secs(5);
 
 pub struct Publisher {
     pub publisher: u8,
+    /// Whether its link is padded.
+    padded: bool,
     address: SocketAddr,
     listener: Option<TcpListener>,
     pub generator: Generator,
@@ -49,10 +51,11 @@ pub struct Life {
 }
 
 impl Publisher {
-    pub fn new(publisher: u8, seed: u64) -> Publisher {
+    pub fn new(publisher: u8, padded: bool, seed: u64) -> Publisher {
         let listener = TcpListener::bind("127.0.0.1:0").expect("a port of the system");
         Publisher {
             publisher,
+            padded,
             address: listener.local_addr().expect("its address"),
             listener: Some(listener),
             generator: Generator::new(seed ^ u64::from(publisher) << 40),
@@ -101,7 +104,7 @@ impl Publisher {
             return Ok(None);
         };
         // None if the relay has given it up while nobody accepted it.
-        let socket = Socket::open(stream, Side::Server, &mut self.generator)?;
+        let socket = Socket::open(stream, Side::Server, self.padded, &mut self.generator)?;
         Ok(socket.map(|socket| Life {
             socket,
             open: BTreeMap::new(),
@@ -135,7 +138,7 @@ impl Publisher {
             }
             _ => {}
         }
-        life.socket.flush(&mut self.generator);
+        life.socket.flush_or_not(&mut self.generator);
         for got in life.socket.pump()? {
             match got {
                 Got::Pong => {
@@ -239,6 +242,6 @@ impl Publisher {
                 return Err("a fin does not end the connection".to_string());
             }
         }
-        Ok(())
+        life.socket.check_end()
     }
 }

@@ -11,6 +11,8 @@ use std::time::{Duration, Instant};
 
 const READ_TIMEOUT: Duration = Duration::from_millis(4);
 const OPENING_TIMEOUT: Duration = Duration::from_secs(10);
+/// After which nothing more of one batch comes, even on a busy machine.
+const QUIET: Duration = Duration::from_secs(1);
 
 pub struct Socket {
     stream: TcpStream,
@@ -18,6 +20,10 @@ pub struct Socket {
     chunk: Vec<u8>,
     /// The connection is over.
     pub ended: bool,
+    /// The relay has ended it, and all that it wrote has come.
+    saw_end: bool,
+    /// When bytes came last.
+    heard: Instant,
     pub cut_writes: u64,
 }
 
@@ -26,9 +32,10 @@ impl Socket {
     pub fn open(
         stream: TcpStream,
         side: Side,
+        padded: bool,
         generator: &mut Generator,
     ) -> Result<Option<Socket>, String> {
-        let end = OtherEnd::new(side, generator.below(2) == 0);
+        let end = OtherEnd::with_padded(side, generator.below(2) == 0, padded);
         Socket::open_end(stream, end, generator)
     }
 
@@ -48,6 +55,8 @@ impl Socket {
             end,
             chunk: vec![0; 32_768],
             ended: false,
+            saw_end: false,
+            heard: Instant::now(),
             cut_writes: 0,
         };
         let deadline = Instant::now() + OPENING_TIMEOUT;
@@ -67,19 +76,61 @@ impl Socket {
         Ok(Some(socket))
     }
 
-    /// What has come, after a short wait if there is nothing.
+    /// What has come, after a short wait if there is nothing. On a padded link
+    /// the relay goes quiet at a block's end only.
     pub fn pump(&mut self) -> Result<Vec<Got>, String> {
         match self.stream.read(&mut self.chunk) {
-            Ok(0) => self.ended = true,
-            Ok(count) => return self.end.take_in(&self.chunk[..count]),
-            Err(error) if is_pause(&error) => {}
+            Ok(0) => {
+                self.ended = true;
+                self.saw_end = true;
+            }
+            Ok(count) => {
+                self.heard = Instant::now();
+                return self.end.take_in(&self.chunk[..count]);
+            }
+            Err(error) if is_pause(&error) => {
+                if self.heard.elapsed() > QUIET {
+                    self.is_at_block_end("quiet")?;
+                }
+            }
             Err(_) => self.ended = true,
         }
         Ok(Vec::new())
     }
 
-    /// Writes what is to go out, whole or in parts.
+    fn is_at_block_end(&self, state: &str) -> Result<(), String> {
+        match self.end.past_blocks() {
+            0 => Ok(()),
+            past => Err(format!("{state}, {past} bytes past a block's end")),
+        }
+    }
+
+    /// Where the relay ended the connection though we have made no fault: that
+    /// too was at a block's end.
+    pub fn check_end(&self) -> Result<(), String> {
+        match self.saw_end {
+            true => self.is_at_block_end("ended"),
+            // Some of it may not have come.
+            false => Ok(()),
+        }
+    }
+
+    /// Flushes the link, then writes.
     pub fn flush(&mut self, generator: &mut Generator) {
+        self.end.flush();
+        self.write_out(generator);
+    }
+
+    /// Without a cipher the relay reads a link that is not flushed too.
+    pub fn flush_or_not(&mut self, generator: &mut Generator) {
+        match generator.below(4) {
+            0 => self.write_out(generator),
+            _ => self.flush(generator),
+        }
+    }
+
+    /// Writes what is to go out, whole or in parts.
+    pub fn write_out(&mut self, generator: &mut Generator) {
         let output = std::mem::take(&mut self.end.output);
         let mut rest = &output[..];
         let mut parts = match generator.below(4) {

@@ -47,7 +47,16 @@ pub fn is_turned_away(relay: &RelayProcess) -> bool {
 
 /// A front end whose link is open.
 pub fn front(relay: &RelayProcess) -> Socket {
-    let opened = Socket::open(connect(relay), Side::Client, &mut Generator::new(1));
+    open_front(relay, false)
+}
+
+pub fn padded_front(relay: &RelayProcess) -> Socket {
+    open_front(relay, true)
+}
+
+fn open_front(relay: &RelayProcess, padded: bool) -> Socket {
+    let mut generator = Generator::new(1);
+    let opened = Socket::open(connect(relay), Side::Client, padded, &mut generator);
     opened.expect("an opening").expect("an open link")
 }
 
@@ -61,8 +70,16 @@ pub fn accept(listener: &TcpListener, end: OtherEnd) -> Option<Socket> {
 
 /// A publisher whose link is open.
 pub fn publisher(listener: &TcpListener) -> Socket {
-    let opened = accept(listener, OtherEnd::new(Side::Server, true));
-    let mut socket = opened.expect("an open link");
+    open_publisher(listener, false)
+}
+
+pub fn padded_publisher(listener: &TcpListener) -> Socket {
+    open_publisher(listener, true)
+}
+
+fn open_publisher(listener: &TcpListener, padded: bool) -> Socket {
+    let end = OtherEnd::with_padded(Side::Server, true, padded);
+    let mut socket = accept(listener, end).expect("an open link");
     // Now the relay has our Handshake too.
     assert_eq!(all_before_pong(&mut socket), []);
     socket

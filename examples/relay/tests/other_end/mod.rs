@@ -1,9 +1,11 @@
 //! The other end of a relay's connection, played by the second program, so
 //! that the two ends of every link are different implementations. No sockets:
-//! bytes in, bytes out. It opens the link and answers Pings by itself.
+//! bytes in, bytes out. It opens the link and answers Pings by itself. On a padded
+//! link it looks at whole blocks only, as if a cipher were between: what the
+//! relay does not flush does not arrive.
 
 use reference::link::packet::{whole, HANDSHAKE, NONCE, PING, PONG};
-use reference::link::{Link, Outgoing, Received};
+use reference::link::{Link, Outgoing, Received, Settings};
 use reference::message::{self, Message, Side};
 use reference::numbers::read_u32;
 use relay::checksum::crc32;
@@ -19,9 +21,12 @@ pub enum Got {
 pub struct OtherEnd {
     link: Link,
     side: Side,
+    padded: bool,
     /// Of its Nonce, if not the second program's own.
     version: Option<u8>,
     input: Vec<u8>,
+    /// How many bytes the link has taken since the relay's Nonce, once that came.
+    taken: Option<usize>,
     /// Packets that are still to go to the relay.
     pub output: Vec<u8>,
     pub open: bool,
@@ -31,26 +36,34 @@ pub struct OtherEnd {
 
 impl OtherEnd {
     pub fn new(side: Side, crc32c: bool) -> OtherEnd {
-        OtherEnd::begin(side, crc32c, None)
+        OtherEnd::begin(Settings::new(side, crc32c), None)
     }
 
     /// An end whose Nonce has this version.
     pub fn of_version(side: Side, crc32c: bool, version: u8) -> OtherEnd {
-        OtherEnd::begin(side, crc32c, Some(version))
+        OtherEnd::begin(Settings::new(side, crc32c), Some(version))
+    }
+
+    /// An end of a link that is padded, or not.
+    pub fn with_padded(side: Side, crc32c: bool, padded: bool) -> OtherEnd {
+        let settings = Settings::new(side, crc32c);
+        OtherEnd::begin(Settings { padded, ..settings }, None)
     }
 
     /// A client begins the opening.
-    fn begin(side: Side, crc32c: bool, version: Option<u8>) -> OtherEnd {
+    fn begin(settings: Settings, version: Option<u8>) -> OtherEnd {
         let mut end = OtherEnd {
-            link: Link::new(side, crc32c),
-            side,
+            link: Link::set_up(settings).expect("a link"),
+            side: settings.side,
+            padded: settings.padded,
             version,
             input: Vec::new(),
+            taken: None,
             output: Vec::new(),
             open: false,
             answered_pings: 0,
         };
-        if side == Side::Client {
+        if settings.side == Side::Client {
             end.send_nonce();
         }
         end
@@ -62,7 +75,8 @@ impl OtherEnd {
         self.input.extend_from_slice(bytes);
         let mut got = Vec::new();
         loop {
-            let received = self.link.receive(&self.input, clock());
+            let seen = self.input.len() - self.past_blocks();
+            let received = self.link.receive(&self.input[..seen], clock());
             match received.map_err(|refusal| format!("received what is {refusal:?}"))? {
                 Received::Wait(_) => return Ok(got),
                 Received::Packet {
@@ -72,9 +86,19 @@ impl OtherEnd {
                     ..
                 } => {
                     let packet: Vec<u8> = self.input.drain(..consumed).collect();
+                    self.taken = Some(self.taken.map_or(0, |taken| taken + consumed));
                     got.extend(self.packet(packet_type, body.of(&packet))?);
                 }
             }
+        }
+    }
+
+    /// How many bytes of the relay came behind the last whole block; its blocks
+    /// begin with its Handshake.
+    pub fn past_blocks(&self) -> usize {
+        match self.taken {
+            Some(taken) if self.padded => (taken + self.input.len()) % BLOCK,
+            _ => 0,
         }
     }
 
@@ -127,9 +151,18 @@ impl OtherEnd {
         self.send(Outgoing::Message(message));
     }
 
+    /// Adds the words that a cipher would need behind the output.
+    pub fn flush(&mut self) {
+        let mut words = [0; BLOCK];
+        let size = self.link.flush(&mut words);
+        self.output.extend(&words[..size.expect("a link in order")]);
+    }
+
     /// A packet that the second program would not write itself: any type and
-    /// body, with the right number and checksum. The number is taken from a
-    /// message that is never sent.
+    /// body, with the right number, checksum and zeros. The number is taken from
+    /// a message that is never sent. (The link counts that message as written in
+    /// place of this packet, so its flushes may end within a block from now on;
+    /// the relay does not look at that.)
     pub fn send_raw(&mut self, packet_type: u32, body: &[u8]) {
         let unsent = match self.side {
             Side::Client => Message::ClientFin,
@@ -137,8 +170,11 @@ impl OtherEnd {
         };
         let number = read_u32(&self.made(Outgoing::Message(unsent)), 4);
         let (_, checksum) = self.link.expected();
-        self.output
-            .extend(whole(number, packet_type, body, checksum));
+        let mut packet = whole(number, packet_type, body, checksum);
+        if self.padded {
+            packet.resize(packet.len().next_multiple_of(4), 0);
+        }
+        self.output.extend(packet);
     }
 
     fn made(&mut self, outgoing: Outgoing) -> Vec<u8> {
@@ -152,6 +188,9 @@ impl OtherEnd {
         packet
     }
 }
+
+/// A cipher's.
+const BLOCK: usize = 16;
 
 const HANDSHAKE_OUT: Outgoing = Outgoing::Handshake([1; 12], [2; 12]);
 

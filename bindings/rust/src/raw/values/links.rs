@@ -5,12 +5,13 @@ use crate::packet_type::{HANDSHAKE, NONCE, PING, PONG};
 use crate::{NetPid, NetPids};
 
 /// A link in the middle of a conversation, every field by hand.
-const TALKING: Link = Link {
+pub(super) const TALKING: Link = Link {
     set: settings(true, false),
     closed: false,
     crc32c: false,
     version: 1,
     stage: 4,
+    phase: 2,
     sends: 0x1122_3344,
     gets: 0x5566_7788,
     awaits: true,

@@ -7,29 +7,34 @@ const TIME: u32 = 1000;
 /// Whether the link is a server's.
 const SIDES: [bool; 2] = [false, true];
 
+/// All the settings that are not refused.
+fn all_settings() -> impl Iterator<Item = Settings> {
+    (0..24).map(|n| Settings {
+        server: n & 1 != 0,
+        allows: n & 2 != 0,
+        padded: n & 4 != 0,
+        lowest: n / 8,
+    })
+}
+
 #[test]
 fn a_fresh_link_keeps_its_settings() {
-    for (server, allows) in [(false, false), (false, true), (true, false), (true, true)] {
-        for lowest in 0..=2 {
-            let set = Settings {
-                lowest,
-                ..settings(server, allows)
-            };
-            let link = Link {
-                set,
-                closed: false,
-                crc32c: false,
-                version: 0,
-                stage: 0,
-                sends: FIRST_PACKET,
-                gets: FIRST_PACKET,
-                awaits: false,
-                awaited: 0,
-                owes: false,
-                owed: 0,
-            };
-            assert_eq!(set_up(set), SetUp { refusal: 0, link });
-        }
+    for set in all_settings() {
+        let link = Link {
+            set,
+            closed: false,
+            crc32c: false,
+            version: 0,
+            stage: 0,
+            phase: 0,
+            sends: FIRST_PACKET,
+            gets: FIRST_PACKET,
+            awaits: false,
+            awaited: 0,
+            owes: false,
+            owed: 0,
+        };
+        assert_eq!(set_up(set), SetUp { refusal: 0, link });
     }
 }
 
@@ -45,6 +50,7 @@ fn a_lowest_version_above_2_is_refused_with_a_closed_link() {
         for lowest in [3, 255] {
             let mut answer = set_up(Settings {
                 lowest,
+                padded: true,
                 ..settings(server, true)
             });
             assert_eq!((answer.refusal, answer.link), (30, closed));
@@ -56,6 +62,7 @@ fn a_lowest_version_above_2_is_refused_with_a_closed_link() {
             };
             let sent = send(&mut answer.link, &mut [0; 100], b"", outgoing);
             assert_eq!(sent.refusal, 20);
+            assert_eq!(flush(&mut answer.link, &mut [0; 12]).refusal, 20);
             assert_eq!(answer.link, closed);
         }
     }

@@ -8,7 +8,8 @@ returns : tie.Need-returns
 unfolding sentOf
 returns c =
     simp (
-      ← c .before .before .before .before .stage-after .ensures,
+      ← c .before .before .before .before .before .stage-after .ensures,
+      ← c .before .before .before .before .phase-after .ensures,
       ← c .before .before .before .wrapping-add-u32 .ensures,
       ← c .before .before .awaits-sent .ensures,
       ← c .before .awaited-sent .ensures,
@@ -19,6 +20,7 @@ pub sent-spec : {M : Type 1} → statement M
 sent-spec =
     tie.close
     (tie.spec
+    (λ c κs. search needs)
     (λ c κs. search needs)
     (λ c κs. search needs)
     (λ c κs. search needs)

@@ -1,0 +1,2 @@
+-- Definitions of crate flush_c: a flush call's answer, for C.
+pub mod FlushFields

@@ -1,0 +1,2 @@
+-- The ways of each call on a link.
+pub mod Ways

@@ -1,0 +1,2 @@
+-- Any calls on a link.
+pub mod Calls

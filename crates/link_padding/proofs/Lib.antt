@@ -1,0 +1,5 @@
+-- Theorems on the padded profile of one link.
+pub mod Stages
+pub mod Level
+pub mod Before
+pub mod Flushed

@@ -1,0 +1,2 @@
+-- Laws of padding, for the crates above.
+pub mod PaddingLaws
