@@ -44,11 +44,12 @@ struct Link {
     version: u8,
     stage: u8,
     phase: u8,
+    awaits: bool,
+    owes: bool,
+    keyid: u32,
     sends: u32,
     gets: u32,
-    awaits: bool,
     awaited: u64,
-    owes: bool,
     owed: u64,
 }
 

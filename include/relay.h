@@ -1,11 +1,11 @@
-/* The relay core for C: checksums, RPC messages, links, and the table of requests in flight.
+/* The relay core for C: checksums, RPC messages, links and their keys, and the table of requests in flight.
  *
  * Nothing here opens a socket, reads a clock, allocates or draws a random number: the caller lends bytes, time and
  * randomness, and gets answers. Every call has a defined answer for every input, hostile ones included.
  *
  * What a caller owes: no pointer is NULL, not even where its length is 0; what is lent to be written overlaps nothing
  * else that the call is lent; a bool is 0 or 1. A call keeps no pointer, and calls on different links or tables may run
- * at the same time. The numbers of refusals are those of document 01's table.
+ * at the same time. The numbers of refusals are those of documents 01 and 02.
  *
  * Link with librelay.a (bindings/archive builds it). x86-64, System V ABI. */
 #ifndef RELAY_H
@@ -47,12 +47,15 @@ enum {
     RELAY_VERSION_TOO_OLD = 24,         /* a Nonce's version is below the link's lowest */
     RELAY_PADDING_NOT_ZERO = 25,        /* a byte of the padding behind a packet is not 0 */
     RELAY_FOURTH_WORD = 26,             /* a fourth word of 4 before a packet */
-    RELAY_OUT_OF_RANGE = 30,            /* a link, publisher, first number or lowest version is out of range */
+    RELAY_OUT_OF_RANGE = 30,            /* a link, publisher, first number or lowest version is out of range, or a
+                                           derivation's version is above 2 */
     RELAY_IN_FLIGHT_ALREADY = 31,       /* the link has a request in flight with this number */
     RELAY_LOAD_AT_LIMIT = 32,           /* the publisher has 16 requests in flight */
     RELAY_CAPACITY_GONE = 33,           /* what is left of the 64 places is reserved for other publishers */
     RELAY_NO_SUCH_REQUEST = 34,         /* no such request is in flight */
-    RELAY_EVENT_UNKNOWN_OR_CUT = 35     /* of the program relay_walk alone: an event of no known kind, or cut */
+    RELAY_EVENT_UNKNOWN_OR_CUT = 35,    /* of the program relay_walk alone: an event of no known kind, or cut */
+    RELAY_UNSUITABLE_KEY = 36           /* a key is over 4,096 bytes; a link's is under 32, or has four zero bytes in
+                                           front */
 };
 
 /* ---- Packet types ---- */
@@ -127,7 +130,8 @@ typedef struct relay_moment {
     uint32_t time; /* our time, in seconds */
 } relay_moment;
 
-/* A link's state, for its calls alone: made by relay_set_up, lent to each call, and updated where it stands. */
+/* A link's state, for its calls alone: made by relay_set_up or relay_set_up_with_key, lent to each call, and updated
+ * where it stands. */
 typedef struct relay_link {
     relay_settings set;
     bool closed;
@@ -135,11 +139,13 @@ typedef struct relay_link {
     uint8_t version;  /* of the other side's Nonce */
     uint8_t stage;    /* how many packets of the opening went over, in either direction: 4 after it */
     uint8_t phase;    /* on a padded link, the words since the first byte of our Handshake, modulo 4 */
+    bool awaits;      /* a Ping of ours is unanswered */
+    bool owes;        /* we owe a Pong */
+    uint32_t keyid;   /* the first four bytes, as a little-endian number, of the key that the link was set up with, or
+                         0: all that a link keeps of a key */
     uint32_t sends;   /* the next packet's number, of each direction */
     uint32_t gets;
-    bool awaits;      /* a Ping of ours is unanswered, and its ID */
-    uint64_t awaited;
-    bool owes;        /* we owe a Pong, and its ID */
+    uint64_t awaited; /* the ID of the Ping that awaits its Pong, and of the Ping that is owed one */
     uint64_t owed;
 } relay_link;
 
@@ -150,8 +156,13 @@ typedef struct relay_set_up_answer {
     relay_link link;
 } relay_set_up_answer;
 
-/* Refused with 30 for a lowest version above 2. */
+/* A link without a key. Refused with 30 for a lowest version above 2. */
 relay_set_up_answer relay_set_up(relay_settings settings);
+
+/* A link with a key. Refused with 36 for a key over 4,096 or under 32 bytes, an empty one too, or with four zero bytes
+ * in front, then with 30. The caller keeps the key, for relay_derive, and clears it. Links do not cipher yet: this one
+ * sends and receives as one without a key, and opens with a peer that has another key or none. */
+relay_set_up_answer relay_set_up_with_key(relay_settings settings, const uint8_t *key, size_t n);
 
 /* What stands at the front of received bytes: relay_arrival.tag. */
 enum {
@@ -252,6 +263,86 @@ relay_sent relay_send(relay_link *link, uint8_t *buf, size_t room, const uint8_t
  * whole block does not arrive before more follows it. The words go out behind that packet, like a packet. Without a
  * cipher a padded link is read whether it is flushed or not. A flush that is not needed writes nothing. */
 relay_sent relay_flush(relay_link *link, uint8_t *buf, size_t room);
+
+/* ---- Keys of a link ----
+ *
+ * What AES-256 in CBC mode needs for each direction of a link, from both Nonces and the link's key. The cipher and the
+ * Diffie-Hellman exchange are the caller's. A driver's order of calls, alike at both ends, when both Nonces went over:
+ *
+ *   1. relay_read_nonce of the body that relay_body gives, and of the Nonce that it sent itself: what relay_send wrote,
+ *      but for the first 12 bytes and the last 4;
+ *   2. fill one relay_derivation: the version of the server's Nonce, random and time of each Nonce, in version 0 both
+ *      addresses, in version 2 the shared bytes;
+ *   3. relay_derive with from_server false, for what the client sends, and true, for what the server sends;
+ *   4. relay_clear of what the calls below leave to the caller to clear.
+ *
+ * No call keeps anything. What a compiler leaves on the stack is not cleared. */
+
+/* MD5 and SHA-1 of s. */
+typedef struct relay_md5_digest {
+    uint8_t bytes[16];
+} relay_md5_digest;
+
+typedef struct relay_sha1_digest {
+    uint8_t bytes[20];
+} relay_sha1_digest;
+
+relay_md5_digest relay_md5(const uint8_t *s, size_t n);
+relay_sha1_digest relay_sha1(const uint8_t *s, size_t n);
+
+/* What a derivation needs of a Nonce's body. */
+typedef struct relay_nonce_fields {
+    uint8_t refusal;   /* 0 where it was read; else all other fields are 0 */
+    uint8_t version;
+    uint32_t time;
+    relay_part random; /* 16 bytes of the body */
+    relay_part point;  /* 32 bytes from byte 28 of the body on; under version 2 there is none: len is 0. Our links send
+                          zeros, as they do not cipher yet */
+} relay_nonce_fields;
+
+/* Refused with 7 for a body under 28 bytes, or under 60 with version 2 or more. Bytes past that are ignored. */
+relay_nonce_fields relay_read_nonce(const uint8_t *body, size_t n);
+
+/* One end of a link. Version 0 alone uses ip and port, of its end of the connection: numbers, not the network's bytes,
+ * so that 1.2.3.4 is 0x01020304. */
+typedef struct relay_end {
+    uint8_t random[16]; /* of its Nonce */
+    uint32_t time;      /* of its Nonce */
+    uint32_t ip;
+    uint16_t port;
+} relay_end;
+
+typedef struct relay_ends {
+    relay_end client, server;
+} relay_ends;
+
+/* What keys are derived from, beside the link's key. The caller clears shared. */
+typedef struct relay_derivation {
+    uint8_t version;    /* 0, 1 or 2: that of the server's Nonce, which both speak */
+    bool from_server;   /* whether the keys are for what the server sends; else for what the client sends */
+    relay_ends ends;
+    uint8_t shared[32]; /* the Diffie-Hellman secret; version 2 alone uses it */
+} relay_derivation;
+
+/* The keys of one direction. The caller clears all of it. */
+typedef struct relay_derived {
+    uint8_t refusal;    /* 0 where they were derived; else all other fields are 0 */
+    size_t size;        /* of the init message, at the buffer's front */
+    uint8_t key[32];    /* for AES-256 */
+    uint8_t vector[16]; /* the starting vector */
+} relay_derived;
+
+/* Room that every init message fits: it has 86 bytes and the key's, in version 2 118 and the key's. */
+#define RELAY_INIT_MESSAGE_MOST 4214
+
+/* Writes the init message at the front of buf, and hands back the keys that follow from it; bytes past it stay. The key
+ * may have any length up to 4,096, though a link's has 32 bytes at least. Refused with 36 for a longer one, then 30 for
+ * a version above 2, then 16; after a refusal every byte of buf is as before. The caller clears buf, which has the key
+ * and the shared bytes in it, and its own copy of the key. */
+relay_derived relay_derive(uint8_t *buf, size_t room, relay_derivation what, const uint8_t *key, size_t n);
+
+/* Makes every byte 0. A compiler may leave out a memset of what is not read again, but not this call. */
+void relay_clear(uint8_t *buf, size_t n);
 
 /* ---- The table of requests in flight (document 01: the ticket table) ---- */
 

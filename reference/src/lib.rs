@@ -5,6 +5,9 @@
 pub mod checksum;
 pub mod event;
 pub mod generator;
+pub mod hash;
+pub mod hexadecimal;
+pub mod keys;
 pub mod link;
 pub mod message;
 pub mod numbers;

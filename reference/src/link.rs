@@ -1,6 +1,8 @@
 //! A link of document 01, at either side: its whole state, and what both the
 //! receiving and the sending of packets ask of it.
 
+mod key;
+mod nonce_fields;
 mod opening;
 pub mod packet;
 mod padding;
@@ -15,6 +17,7 @@ use crate::refusal::Refusal;
 use opening::Stage;
 use packet::{HANDSHAKE, NONCE, PING, PONG};
 
+pub use nonce_fields::{nonce_fields, NonceFields};
 pub use opening::{handshake_body, nonce_body, Nonce, FLAG_CRC32C, OUR_VERSION};
 
 /// What a driver says when it sets up a link.
@@ -67,6 +70,8 @@ pub struct Link {
     owed: Option<u64>,
     /// How many bytes we wrote from the first byte of our Handshake on.
     since_handshake: u64,
+    /// All that is kept of the key; zeros without one.
+    key_id: [u8; 4],
     closed: bool,
 }
 
@@ -88,6 +93,8 @@ pub struct State {
     /// All bytes that it wrote from the first byte of its own Handshake on:
     /// packets, zeros and words of a flush; 0 before it.
     pub since_handshake: u64,
+    /// Zeros for a link that was set up without a key.
+    pub key_id: [u8; 4],
 }
 
 #[derive(Clone, Copy, Debug, PartialEq, Eq)]
@@ -154,6 +161,7 @@ impl Link {
             awaited: None,
             owed: None,
             since_handshake: 0,
+            key_id: [0; 4],
             closed: false,
         }
     }
@@ -179,6 +187,7 @@ impl Link {
             awaited: self.awaited,
             owed: self.owed,
             since_handshake: self.since_handshake,
+            key_id: self.key_id,
         }
     }
 

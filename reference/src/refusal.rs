@@ -33,6 +33,7 @@ pub enum Refusal {
     SharedRoomGone = 33,
     NotInFlight = 34,
     BadEvent = 35,
+    BadKey = 36,
 }
 
 impl Refusal {

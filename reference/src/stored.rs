@@ -2,6 +2,16 @@
 //! for them.
 
 mod checksum_cases;
+mod keys_cases;
+mod keys_digests;
+mod keys_lengths;
+mod keys_nonces;
+mod keys_parts;
+mod keys_printed;
+mod keys_random;
+mod keys_refusals;
+mod keys_request;
+mod keys_set_ups;
 mod link_bodies;
 mod link_cases;
 mod link_closing;
@@ -57,6 +67,7 @@ pub fn files() -> Vec<StoredFile> {
     let long = walk_long::input();
     let message = message_cases::input();
     let link = link_cases::input();
+    let keys = keys_cases::input();
     vec![
         stored(
             "crates/checksum_check/stdout",
@@ -81,6 +92,8 @@ pub fn files() -> Vec<StoredFile> {
         stored("crates/message_check/stdin", message),
         stored("crates/link_check/stdout", link_cases::output(&link)),
         stored("crates/link_check/stdin", link),
+        stored("crates/keys_check/stdout", keys_cases::output(&keys)),
+        stored("crates/keys_check/stdin", keys),
     ]
 }
 

@@ -6,7 +6,8 @@
 //! interface and wraps it, so that the compiler keeps what a C caller must keep:
 //! slices that fit, a front number never taken for a publisher's, a link and a
 //! table that only their own calls change. It decides nothing itself and copies
-//! no payload. The types that matter are [`Link`], [`Message`] and [`Table`].
+//! no payload. The types that matter are [`Link`], [`Message`] and [`Table`];
+//! what a cipher needs for a link is in [`keys`].
 //!
 //! ```
 //! use relay::{Arrival, Link, Moment, Settings, Side, ToSend};
@@ -25,6 +26,7 @@
 //! ```
 
 pub mod checksum;
+pub mod keys;
 mod link;
 mod message;
 mod netpid;

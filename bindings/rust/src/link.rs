@@ -95,10 +95,26 @@ pub enum Arrival<'a> {
 pub struct Link(pub(crate) raw::Link);
 
 impl Link {
-    /// A link before its opening; refused with 30 for a lowest version above 2.
+    /// A link without a key before its opening; refused with 30 for a lowest
+    /// version above 2.
     pub fn new(settings: Settings) -> Result<Link, Refusal> {
         // SAFETY: all is passed by value.
         let answer = unsafe { raw::relay_set_up(settings.raw()) };
+        Refusal::unless(answer.refusal, Link(answer.link))
+    }
+
+    /// A link with a key before its opening; refused with 36 for a key over
+    /// 4,096 or under 32 bytes or with four zero bytes in front, then with 30.
+    ///
+    /// The link keeps the key's first four bytes, which are no secret, and no
+    /// more: the caller keeps the key, for [`derive`](crate::keys::derive), and
+    /// [clears](crate::keys::clear) it. Links do not cipher yet: this one sends
+    /// and receives as one without a key, and opens with a peer that has
+    /// another key or none.
+    pub fn with_key(settings: Settings, key: &[u8]) -> Result<Link, Refusal> {
+        let set = settings.raw();
+        // SAFETY: the pointer and length are a slice's.
+        let answer = unsafe { raw::relay_set_up_with_key(set, key.as_ptr(), key.len()) };
         Refusal::unless(answer.refusal, Link(answer.link))
     }
 

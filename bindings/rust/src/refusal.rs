@@ -1,4 +1,4 @@
-//! Refusals, by the numbers of document 01's table.
+//! Refusals, by the numbers of documents 01 and 02.
 
 use std::fmt;
 use std::num::NonZeroU8;
@@ -8,7 +8,7 @@ use std::num::NonZeroU8;
 pub struct Refusal(NonZeroU8);
 
 impl Refusal {
-    /// The number in document 01's table.
+    /// The number in document 01 or 02.
     pub fn number(self) -> u8 {
         self.0.get()
     }
@@ -75,12 +75,15 @@ refusals! {
     VERSION_TOO_OLD = 24, "a Nonce's version is below the link's lowest";
     PADDING_NOT_ZERO = 25, "a byte of the padding behind a packet is not 0";
     FOURTH_WORD = 26, "a fourth word of 4 before a packet";
-    OUT_OF_RANGE = 30, "a link, publisher, first number or lowest version is out of range";
+    OUT_OF_RANGE = 30,
+        "a link, publisher, first number, lowest version or derivation's version is out of range";
     IN_FLIGHT_ALREADY = 31, "the link has a request in flight with this number";
     LOAD_AT_LIMIT = 32, "the publisher has 16 requests in flight";
     CAPACITY_GONE = 33, "what is left of the 64 places is reserved for other publishers";
     NO_SUCH_REQUEST = 34, "no such request is in flight";
     EVENT_UNKNOWN_OR_CUT = 35, "an event of no known kind, or cut: of the program relay_walk alone";
+    UNSUITABLE_KEY = 36,
+        "a key is over 4,096 bytes, or a link's is under 32 or has four zero bytes in front";
 }
 
 impl fmt::Display for Refusal {

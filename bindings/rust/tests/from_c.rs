@@ -1,20 +1,12 @@
-//! The example in C, compiled against include/relay.h and run.
+//! The examples in C, compiled against include/relay.h and run.
 
 use std::path::Path;
 use std::process::Command;
 
-const EXPECTED: &str = "\
-kind 1, number 77, actor -5, payload page 1
-asked: publisher 0 gets it as 1
-replied: to link 3, number 77
-cancelled too late: 34
-lost: 1, link 4, number 77
-";
-
-#[test]
-fn the_example_in_c() {
+/// What bindings/c/NAME.c prints.
+fn printed(name: &str) -> String {
     let bindings = Path::new(env!("CARGO_MANIFEST_DIR")).join("..");
-    let program = Path::new(env!("CARGO_TARGET_TMPDIR")).join("example");
+    let program = Path::new(env!("CARGO_TARGET_TMPDIR")).join(name);
     let compiled = Command::new("cc")
         .args([
             "-std=c99",
@@ -26,7 +18,7 @@ fn the_example_in_c() {
         ])
         .arg("-I")
         .arg(bindings.join("../include"))
-        .arg(bindings.join("c/example.c"))
+        .arg(bindings.join(format!("c/{name}.c")))
         .arg(env!("RELAY_ARCHIVE_FOUND"))
         .arg("-o")
         .arg(&program)
@@ -35,5 +27,38 @@ fn the_example_in_c() {
     assert!(compiled.success());
     let run = Command::new(&program).output().expect("the example");
     assert!(run.status.success());
-    assert_eq!(String::from_utf8_lossy(&run.stdout), EXPECTED);
+    String::from_utf8(run.stdout).expect("text")
+}
+
+#[test]
+fn a_request_in_c() {
+    let expected = "\
+kind 1, number 77, actor -5, payload page 1
+asked: publisher 0 gets it as 1
+replied: to link 3, number 77
+cancelled too late: 34
+lost: 1, link 4, number 77
+";
+    assert_eq!(printed("example"), expected);
+}
+
+/// The last six lines are the protocol document's.
+#[test]
+fn keys_in_c() {
+    let expected = "\
+version 2
+client sends: the same keys at both ends
+server sends: the same keys at both ends
+message 4142434445464748494a4b4c4d4e4f506162636465666768696a6b6c6d6e6f70\
+04030201100f0e0d0a09434c49454e54080706051211\
+6872656e4142434445464748494a4b4c4d4e4f506162636465666768696a6b6c6d6e6f70
+key 28b5a5313b3ea9e2f6f0293e0748b2f743b0e112779faa77a3ee9d71ae70dda6
+vector 80387128489168b336d998762bce6fef
+message 4142434445464748494a4b4c4d4e4f506162636465666768696a6b6c6d6e6f70\
+04030201100f0e0d0a09534552564552080706051211\
+6872656e4142434445464748494a4b4c4d4e4f506162636465666768696a6b6c6d6e6f70
+key e3cf8557ea4ad963c3b637d466388403841d2e989a1fc684ac691c44b05ac9bb
+vector 1efd4c8aa43a87d1ea5488a1bc669269
+";
+    assert_eq!(printed("keys"), expected);
 }

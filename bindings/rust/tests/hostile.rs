@@ -1,5 +1,6 @@
 //! Bytes and numbers that no honest peer sends: every call answers.
 
+use relay::keys::NonceFields;
 use relay::{
     checksum, clock_difference, net_pids, packet_type, read_message, Arrival, FrontNumber, Invoke,
     Link, Message, Moment, NetPid, NetPids, PublisherNumber, Refusal, Settings, Side, Table,
@@ -44,6 +45,19 @@ fn lowest_versions_of_all_sizes() {
             let refusal = Link::new(Settings::new(side, true).with_lowest(lowest)).err();
             let expected = (lowest > 2).then_some(Refusal::OUT_OF_RANGE);
             assert_eq!(refusal, expected, "{lowest}");
+        }
+    }
+}
+
+#[test]
+fn keys_of_all_sizes() {
+    let key = [1; 5000];
+    for n in 0..=5000 {
+        for side in SIDES {
+            let refusal = Link::with_key(Settings::new(side, true), &key[..n]).err();
+            let unsuitable = !(32..=4096).contains(&n);
+            let expected = unsuitable.then_some(Refusal::UNSUITABLE_KEY);
+            assert_eq!(refusal, expected, "{n}");
         }
     }
 }
@@ -199,6 +213,8 @@ fn random_bodies_of_messages() {
             }
         }
         clock_difference(&body, NOW);
+        // The same of its random bytes and its point.
+        let _ = NonceFields::read(&body);
         assert_eq!(checksum::crc32_update(0, &body), checksum::crc32(&body));
         assert_eq!(checksum::crc32c_update(0, &body), checksum::crc32c(&body));
     }

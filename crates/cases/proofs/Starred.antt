@@ -55,16 +55,16 @@ use Rattle.cases.specs.Cases.{length16, length15, length1023, length1024
 -- ---- a Nonce, in the first packet
 
 -- the server waits for the client's first packet
-awaits : Awaits (SetUp.freshOf (side true)) (SetUp.freshOf (side false))
+awaits : Awaits (SetUp.freshOf (side true) 0) (SetUp.freshOf (side false) 0)
 unfolding SetUp.freshOf castagnoliOf paddedOf turnRefusal maySend
 awaits = record { number = refl; checksum = refl; stage = refl; profile = refl; turn = refl }
 
-module _ (body : List ℕ) (n : ℕ) (is : length body ≡ n) (len : lengthRefusal (SetUp.freshOf (side true)) (n + 16) ≡ 0) (short : n + 16 < 2 ^ 32) (g : Small body) where
+module _ (body : List ℕ) (n : ℕ) (is : length body ≡ n) (len : lengthRefusal (SetUp.freshOf (side true) 0) (n + 16) ≡ 0) (short : n + 16 < 2 ^ 32) (g : Small body) where
   abbrev server : Link
-  server = SetUp.freshOf (side true)
+  server = SetUp.freshOf (side true) 0
 
   abbrev client : Link
-  client = SetUp.freshOf (side false)
+  client = SetUp.freshOf (side false) 0
 
   whole : packetOf client 0x7acb87aa body ≡ packetOf client 0x7acb87aa body ++ []
   whole = sym (append-nil (packetOf client 0x7acb87aa body))

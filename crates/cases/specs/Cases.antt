@@ -51,21 +51,22 @@ opened server sends gets =
       version = 2;
       stage = 4;
       phase = 0;
+      awaits = false;
+      owes = false;
+      keyid = 0;
       sends = sends;
       gets = gets;
-      awaits = false;
       awaited = 0;
-      owes = false;
       owed = 0;
     }
 
 -- what a server answers before the opening, to these bytes
 abbrev pub inOpening : List ℕ → Outcome
-inOpening s = ofArrival (receiveOf (freshOf (side true)) s our .answer)
+inOpening s = ofArrival (receiveOf (freshOf (side true) 0) s our .answer)
 
 -- the first packet of a client with this body
 abbrev pub nonce : List ℕ → List ℕ
-nonce body = packetOf (freshOf (side false)) 0x7acb87aa body
+nonce body = packetOf (freshOf (side false) 0) 0x7acb87aa body
 
 -- a Nonce's body, with the client's time
 abbrev pub timed : ℕ → List ℕ

@@ -40,11 +40,12 @@ flushedOf l n =
       version = l .version;
       stage = l .stage;
       phase = phaseAfter l n;
+      awaits = l .awaits;
+      owes = l .owes;
+      keyid = l .keyid;
       sends = l .sends;
       gets = l .gets;
-      awaits = l .awaits;
       awaited = l .awaited;
-      owes = l .owes;
       owed = l .owed;
     }
 

@@ -22,11 +22,12 @@ closedOf l =
       version = l .version;
       stage = l .stage;
       phase = l .phase;
+      awaits = l .awaits;
+      owes = l .owes;
+      keyid = l .keyid;
       sends = l .sends;
       gets = l .gets;
-      awaits = l .awaits;
       awaited = l .awaited;
-      owes = l .owes;
       owed = l .owed;
     }
 
@@ -65,10 +66,11 @@ afterOf l kind b m =
       version = versionAfter l kind b;
       stage = stageAfter (l .stage);
       phase = l .phase;
+      awaits = awaitsAfter l kind;
+      owes = owesAfter l kind;
+      keyid = l .keyid;
       sends = l .sends;
       gets = (l .gets + 1) % 2 ^ 32;
-      awaits = awaitsAfter l kind;
       awaited = l .awaited;
-      owes = owesAfter l kind;
       owed = owedAfter l kind b;
     }

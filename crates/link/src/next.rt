@@ -91,11 +91,12 @@ pub(crate) fn after(link: Link, kind: u32, b: &[u8], moment: Moment) -> Link
         version: version_after(link, kind, b),
         stage: stage_after(link.stage),
         phase: link.phase,
+        awaits: awaits_after(link, kind),
+        owes: owes_after(link, kind),
+        keyid: link.keyid,
         sends: link.sends,
         gets: std::num::wrapping_add_u32(link.gets, 1),
-        awaits: awaits_after(link, kind),
         awaited: link.awaited,
-        owes: owes_after(link, kind),
         owed: owed_after(link, kind, b),
     }
 }

@@ -5,7 +5,7 @@ use Rattle.link_state.specs.declared.SetUp.{SetUp}
 use Rattle.link_state.specs.declared.SetUp.the-variants.{Ready, Refused}
 use Rattle.link_c.specs.declared.RelaySetUp.{RelaySetUp}
 
--- a link for refused settings: it is closed, and all else is 0 or false
+-- a link for settings or a key that are refused: it is closed, and all else is 0 or false
 unfoldable pub noLink : Link
 noLink =
     record {
@@ -15,11 +15,12 @@ noLink =
       version = 0;
       stage = 0;
       phase = 0;
+      awaits = false;
+      owes = false;
+      keyid = 0;
       sends = 0;
       gets = 0;
-      awaits = false;
       awaited = 0;
-      owes = false;
       owed = 0;
     }
 

@@ -14,6 +14,7 @@ use link_state::Link;
 pub use pids::relay_read_netpids;
 pub use place::relay_body;
 pub use start::relay_set_up;
+pub use start::relay_set_up_with_key;
 pub use times::relay_clock_difference;
 
 // A link that was set up. refusal is the refusal's number, or 0: then the link is ready.

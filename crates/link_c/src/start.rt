@@ -4,7 +4,9 @@ use link_state::Link;
 use link_state::SetUp;
 use link_state::Settings;
 use link_state::set_up;
+use link_state::set_up_with_key;
 ghost use mathlib.Core.Path.{_≡_};
+ghost use mathlib.Core.Option.{none, some};
 ghost use Rattle.link_state.specs.SetUp.{setUpOf};
 ghost use Rattle.link_c.specs.SetUpFields.{noLink, setUpFields};
 
@@ -24,11 +26,12 @@ fn no_link() -> Link
         version: 0,
         stage: 0,
         phase: 0,
+        awaits: false,
+        owes: false,
+        keyid: 0,
         sends: 0,
         gets: 0,
-        awaits: false,
         awaited: 0,
-        owes: false,
         owed: 0,
     }
 }
@@ -45,10 +48,18 @@ fn set_up_fields(s: SetUp) -> RelaySetUp
     }
 }
 
-// A link before its opening.
+// A link without a key, before its opening.
 #[no_mangle]
 pub extern "C" fn relay_set_up(set: Settings) -> RelaySetUp
-    ensures { λ r. ⌜ r ≡ setUpFields (setUpOf set) ⌝ }
+    ensures { λ r. ⌜ r ≡ setUpFields (setUpOf set none) ⌝ }
 {
     set_up_fields(set_up(set))
+}
+
+// A link with a key, before its opening. It keeps the key's first four bytes alone.
+#[no_mangle]
+pub extern "C" fn relay_set_up_with_key(set: Settings, key: &[u8]) -> RelaySetUp
+    ensures { λ r. ⌜ r ≡ setUpFields (setUpOf set (some (now (key .entry)))) ⌝ }
+{
+    set_up_fields(set_up_with_key(set, key))
 }

@@ -274,9 +274,9 @@ unfolding after
 holds-after set p t i [] = i
 holds-after set p t i (c ∷ cs) = holds-after set p (called t c) (by-call set p t i c) cs
 
-holds-start : (set : Settings) → Holds set (start set)
+holds-start : (set : Settings) (keyid : ℕ) → Holds set (start set keyid)
 unfolding start freshOf begunOf
-holds-start set = record { same = refl; begins = go (set .server); phase = refl; words = refl; early = λ e. refl }
+holds-start set keyid = record { same = refl; begins = go (set .server); phase = refl; words = refl; early = λ e. refl }
   where
     go : (server : Bool) → false ≡ leb (from server) 0
     go true = refl
@@ -306,13 +306,13 @@ near set p t i (flushes room ∷ ds) q m h g =
     near set p (called t (flushes room)) (by-call set p t i (flushes room)) ds q m h
     (omega (arith, near-at set p t i room))
 
--- any calls on a fresh padded link, refused ones included
-module _ (set : Settings) (padded : set .padded ≡ true) (cs : List Call) where
+-- any calls on a fresh padded link, whatever key it was set up with, refused ones included
+module _ (set : Settings) (keyid : ℕ) (padded : set .padded ≡ true) (cs : List Call) where
   abbrev made : Tally
-  made = after (start set) cs
+  made = after (start set keyid) cs
 
   abbrev holds : Holds set made
-  holds = holds-after set padded (start set) (holds-start set) cs
+  holds = holds-after set padded (start set keyid) (holds-start set keyid) cs
 
   -- COUNTED: the link's count is that of the bytes since the first byte of our Handshake, which are whole words
   pub counted : (made .link .phase ≡ made .bytes / 4 % 4) × (made .bytes % 4 ≡ 0)

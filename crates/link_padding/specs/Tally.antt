@@ -44,9 +44,9 @@ unfoldable pub after : Tally → List Call → Tally
 after t [] = t
 after t (c ∷ cs) = after (called t c) cs
 
--- a fresh link
-unfoldable pub start : Settings → Tally
-start set = record { link = freshOf set; begun = false; bytes = 0 }
+-- a fresh link, whatever key it was set up with
+unfoldable pub start : Settings → ℕ → Tally
+start set keyid = record { link = freshOf set keyid; begun = false; bytes = 0 }
 
 -- calls among which no packet is sent
 abbrev pub Quiet : List Call → Type 0

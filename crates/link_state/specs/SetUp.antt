@@ -1,16 +1,20 @@
 -- A link before its opening (document 01, "Packets" and "Opening"). Assumes nothing.
-use mathlib.Core.Bool.{false}
-use mathlib.Core.List.{[], _∷_}
-use lib.Dec.{ltb}
+use Prim.Native.Nat.{ℕ}
+use mathlib.Core.Bool.{Bool, true, false}
+use mathlib.Core.List.{List, [], _∷_}
+use mathlib.Core.Option.{Option, none, some}
+use lib.ListN.{length}
+use lib.Dec.{ltb, eqb}
+use Rattle.wire.specs.Bytes.{le, part}
 use Rattle.wire.specs.Choice.{first}
 use Rattle.link_state.specs.declared.Link.{Link}
 use Rattle.link_state.specs.declared.Settings.{Settings}
 use Rattle.link_state.specs.declared.SetUp.{SetUp}
 use Rattle.link_state.specs.declared.SetUp.the-variants.{Ready, Refused}
 
--- nothing went over it yet: "Each direction's first packet has number 4,294,967,294"
-unfoldable pub freshOf : Settings → Link
-freshOf set =
+-- nothing went over it yet, and KeyID is this: "Each direction's first packet has number 4,294,967,294"
+unfoldable pub freshOf : Settings → ℕ → Link
+freshOf set keyid =
     record {
       set = set;
       closed = false;
@@ -18,14 +22,36 @@ freshOf set =
       version = 0;
       stage = 0;
       phase = 0;
+      awaits = false;
+      owes = false;
+      keyid = keyid;
       sends = 4294967294;
       gets = 4294967294;
-      awaits = false;
       awaited = 0;
-      owes = false;
       owed = 0;
     }
 
--- what set-up answers: "30 for a lowest version above 2 when a link is set up" (document 02, A11)
-unfoldable pub setUpOf : Settings → SetUp
-setUpOf set = first ((ltb 2 (set .lowest), Refused 30) ∷ []) (Ready (freshOf set))
+-- KeyID, the key's first four bytes as a number (protocol document, "KeyID"); 0 without a key
+unfoldable pub keyIdOf : Option (List ℕ) → ℕ
+keyIdOf none = 0
+keyIdOf (some key) = le (part key 0 4)
+
+-- "a key over 4,096 bytes, and on links under 32 or with four zero bytes in front" (document 02, A8)
+unfoldable pub keyRefused : Option (List ℕ) → Bool
+keyRefused none = false
+keyRefused (some key) =
+    first (
+    (ltb 4096 (length key), true) ∷
+    (ltb (length key) 32, true) ∷
+    []
+    ) (eqb (le (part key 0 4)) 0)
+
+-- what set-up answers: 36 "first of all when a link is set up with one" (A8), then "30 for a lowest version above 2
+-- when a link is set up" (A11)
+unfoldable pub setUpOf : Settings → Option (List ℕ) → SetUp
+setUpOf set key =
+    first (
+    (keyRefused key, Refused 36) ∷
+    (ltb 2 (set .lowest), Refused 30) ∷
+    []
+    ) (Ready (freshOf set (keyIdOf key)))

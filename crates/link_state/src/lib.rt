@@ -1,15 +1,15 @@
 // The state of a link between two calls: its settings, where its opening stands, and the next packet numbers.
 //
-// Only numbers and bools (`#[repr(C)]`), so that a caller can lend a link across the C interface. Nothing here reads or
-// writes a byte. The types that matter are `Link`, which every call of the crates above takes, and `Moment`, which has
+// Only numbers and bools (`#[repr(C)]`), so that a caller can lend a link across the C interface. Nothing here reads a
+// byte but a key's first four, or writes one. The types that matter are `Link`, which every call of the crates above takes, and `Moment`, which has
 // what the caller gives with each call.
+mod start;
 mod turn;
 
-use refusal::OUT_OF_RANGE;
+pub use start::set_up;
+pub use start::set_up_with_key;
 pub use turn::may_send;
 pub use turn::stage_after;
-ghost use mathlib.Core.Path.{_≡_};
-ghost use Rattle.link_state.specs.SetUp.{freshOf, setUpOf};
 
 // The highest version that we write or, as client, accept; so a link's lowest one is at most this.
 pub const OUR_VERSION: u8 = 2;
@@ -45,14 +45,17 @@ pub struct Link {
     pub stage: u8,
     // on a padded link, the 32-bit words since the first byte of our Handshake, modulo 4
     pub phase: u8,
+    // whether a Ping of ours is unanswered
+    pub awaits: bool,
+    // whether we owe a Pong
+    pub owes: bool,
+    // the first four bytes of the key that the link was set up with, or 0: all that a link keeps of it
+    pub keyid: u32,
     // the next packet's number, of each direction
     pub sends: u32,
     pub gets: u32,
-    // whether a Ping of ours is unanswered, and its ID
-    pub awaits: bool,
+    // the ID of our Ping that is unanswered, and of the Ping that our Pong answers
     pub awaited: u64,
-    // whether we owe a Pong, and the ID of the Ping that it answers
-    pub owes: bool,
     pub owed: u64,
 }
 
@@ -60,36 +63,4 @@ pub struct Link {
 pub enum SetUp {
     Ready(Link),
     Refused(u8),
-}
-
-// The number of each direction's first packet, -2 in 32 bits.
-const FIRST_NUMBER: u32 = 4294967294;
-
-fn fresh(set: Settings) -> Link
-    ensures { λ r. ⌜ r ≡ freshOf set ⌝ }
-{
-    Link {
-        set,
-        closed: false,
-        crc32c: false,
-        version: 0,
-        stage: 0,
-        phase: 0,
-        sends: FIRST_NUMBER,
-        gets: FIRST_NUMBER,
-        awaits: false,
-        awaited: 0,
-        owes: false,
-        owed: 0,
-    }
-}
-
-// A link before its opening, or 30 for a lowest version above ours.
-pub fn set_up(set: Settings) -> SetUp
-    ensures { λ r. ⌜ r ≡ setUpOf set ⌝ }
-{
-    if OUR_VERSION < set.lowest {
-        return SetUp::Refused(OUT_OF_RANGE);
-    }
-    SetUp::Ready(fresh(set))
 }

@@ -13,7 +13,8 @@ use Rattle.link_state.specs.declared.Link.{Link}
 use Rattle.link_state.specs.declared.Settings.{Settings}
 use Rattle.link_state.specs.declared.Moment.{Moment}
 use Rattle.link_state.specs.declared.SetUp.the-variants.{Ready}
-use Rattle.link_state.specs.SetUp.{freshOf, setUpOf}
+use mathlib.Core.Option.{Option, none}
+use Rattle.link_state.specs.SetUp.{freshOf, keyRefused, keyIdOf, setUpOf}
 use Rattle.link_state.specs.Turn.{maySend}
 use Rattle.link_state.proofs.SetUpLaws.{set-up-takes}
 use Rattle.packet.specs.Sum.{sumOf}
@@ -166,13 +167,15 @@ module _ (l : Link) (s : List ℕ) (m : Moment) (none : l .set .lowest ≡ 0) wh
   unfolding receiveOf receiveBefore
   as-base = by-look (lookOf l s) (look-known l m s)
 
--- set-up refuses nothing
-pub set-up-as-base : (set : Settings) → set .lowest ≡ 0 → setUpOf set ≡ Ready (freshOf set)
-set-up-as-base set none = set-up-takes set (omega arith)
+-- set-up without a key refuses nothing
+pub set-up-as-base : (set : Settings) → set .lowest ≡ 0 → setUpOf set none ≡ Ready (freshOf set 0)
+unfolding keyRefused keyIdOf
+set-up-as-base set zero = set-up-takes set none refl (omega arith)
 
--- and every receive call on a link that was set up so is as before, after any calls
-pub always-as-base : (set : Settings) (l : Link) → setUpOf set ≡ Ready l → set .lowest ≡ 0
+-- and every receive call on a link that was set up with lowest version 0, with a key or without, is as before, after any
+-- calls
+pub always-as-base : (set : Settings) (key : Option (List ℕ)) (l : Link) → setUpOf set key ≡ Ready l → set .lowest ≡ 0
     → (cs : List Call) (s : List ℕ) (m : Moment)
     → receiveOf (afterCalls l cs) s m ≡ receiveBefore (afterCalls l cs) s m
-always-as-base set l e none cs s m =
-    as-base (afterCalls l cs) s m (ap (λ (x : Settings). x .lowest) (holds-from-set-up set l e cs .settings) ∙ none)
+always-as-base set key l e zero cs s m =
+    as-base (afterCalls l cs) s m (ap (λ (x : Settings). x .lowest) (holds-from-set-up set key l e cs .settings) ∙ zero)

@@ -3,4 +3,4 @@ pub mod Accepted
 pub mod NoOlder
 pub mod Writes
 pub mod AsBase
-pub mod Clock
+pub mod HandedBack

@@ -12,7 +12,8 @@ use Rattle.link_state.specs.declared.Link.{Link}
 use Rattle.link_state.specs.declared.Settings.{Settings}
 use Rattle.link_state.specs.declared.Moment.{Moment}
 use Rattle.link_state.specs.declared.SetUp.the-variants as set-up
-use Rattle.link_state.specs.SetUp.{freshOf, setUpOf}
+use mathlib.Core.Option.{Option}
+use Rattle.link_state.specs.SetUp.{freshOf, keyIdOf, setUpOf}
 use Rattle.link_state.proofs.SetUpLaws.{set-up-took}
 use Rattle.link_state.specs.Turn.{maySend, stageAfter}
 use Rattle.packet.specs.Allowed.{allowedOf, refuses}
@@ -148,9 +149,9 @@ not-by-sending server n = go server (leb 4 n) refl (ltb n 4) refl
     go true false p true q turn h = let odd = eqb-true (n % 2) 1 turn in omega arith
     go false false p true q turn h = let even = eqb-true (n % 2) 0 turn in omega arith
 
-holds-fresh : (set : Settings) → Holds set (heardFrom (set .server)) (freshOf set)
+holds-fresh : (set : Settings) (keyid : ℕ) → Holds set (heardFrom (set .server)) (freshOf set keyid)
 unfolding freshOf
-holds-fresh set = record { settings = refl; version = λ w. absurd (none (set .server) w) }
+holds-fresh set keyid = record { settings = refl; version = λ w. absurd (none (set .server) w) }
   where
     none : (v : Bool) → heardFrom v ≤ 0 → ⊥
     none true w = omega arith
@@ -160,14 +161,16 @@ soon : (v : Bool) → heardFrom v ≤ 2
 soon true = omega arith
 soon false = omega arith
 
-pub holds-from-set-up : (set : Settings) (l : Link) → setUpOf set ≡ set-up.Ready l → (cs : List Call)
+pub holds-from-set-up : (set : Settings) (key : Option (List ℕ)) (l : Link) → setUpOf set key ≡ set-up.Ready l
+    → (cs : List Call)
     → Holds set (heardFrom (set .server)) (afterCalls l cs)
-holds-from-set-up set l e cs =
+holds-from-set-up set key l e cs =
     holds-calls set (heardFrom (set .server)) (soon (set .server)) (not-by-sending (set .server)) l cs
-    (rw (set-up-took set l e .0) (holds-fresh set))
+    (rw (set-up-took set key l e .0) (holds-fresh set (keyIdOf key)))
 
--- NONE OPENS WITH AN OLD VERSION: a link that was set up, after any calls on any bytes, has a version at least its
--- lowest as soon as it has the other side's Nonce, so also when it is open
-pub none-opens-older : (set : Settings) (l : Link) → setUpOf set ≡ set-up.Ready l → (cs : List Call)
+-- NONE OPENS WITH AN OLD VERSION: a link that was set up, with a key or without, after any calls on any bytes, has a
+-- version at least its lowest as soon as it has the other side's Nonce, so also when it is open
+pub none-opens-older : (set : Settings) (key : Option (List ℕ)) (l : Link) → setUpOf set key ≡ set-up.Ready l
+    → (cs : List Call)
     → heardFrom (set .server) ≤ afterCalls l cs .stage → set .lowest ≤ afterCalls l cs .version
-none-opens-older set l e cs = holds-from-set-up set l e cs .version
+none-opens-older set key l e cs = holds-from-set-up set key l e cs .version

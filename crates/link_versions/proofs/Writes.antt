@@ -1,11 +1,11 @@
 -- No Nonce that a link writes has a version below its lowest. Assumes nothing.
-use borrow.Author.Tests.{leb-true, eqb-true, ltb-true}
+use borrow.Author.Tests.{leb-true, eqb-true}
 use native.Mathlib.Omega.{arith}
-use mathlib.Core.Path.{_≡_, refl, ap, sym, _∙_}
+use mathlib.Core.Path.{_≡_, refl, ap, _∙_}
 use mathlib.Core.Bool.{Bool, true, false}
 use mathlib.Core.List.{List, _++_, append-assoc}
 use Prim.Native.Nat.{ℕ, _+_, _%_, _≤_, _<_}
-use lib.ListN.{length, drop, replicate, length-append}
+use lib.ListN.{length, replicate, length-append}
 use lib.Dec.{ltb, leb, eqb}
 use Rattle.wire.specs.Bytes.{le, part, bytes}
 use Rattle.wire.specs.Choice.{pick}
@@ -14,6 +14,7 @@ use Rattle.link_state.specs.declared.Link.{Link}
 use Rattle.link_state.specs.declared.Settings.{Settings}
 use Rattle.link_state.specs.declared.Moment.{Moment}
 use Rattle.link_state.specs.declared.SetUp.the-variants.{Ready}
+use mathlib.Core.Option.{Option}
 use Rattle.link_state.specs.SetUp.{setUpOf}
 use Rattle.link_state.specs.Turn.{maySend}
 use Rattle.link_state.proofs.SetUpLaws.{set-up-took}
@@ -21,10 +22,10 @@ use Rattle.packet.specs.Sum.{sumOf}
 use Rattle.packet.specs.Padding.{tailOf}
 use Rattle.packet_out.specs.Packet.{headOf, frontOf, packetOf}
 use Rattle.packet_out.specs.declared.Sent.the-variants.{Written}
-use Rattle.packet_out.proofs.PacketLaws.{length-head, length-packet, front-stored}
-use Rattle.send_rules.specs.Control.{controlAnswer, bufferBy, controlStep, controlBuffer}
-use Rattle.send_rules.proofs.ControlLaws.{fits, step-answer}
-use Rattle.nonce_out.specs.Nonce.{versionOf, nonceHead, pointOf, nonceBody, nonceStep, nonceBuffer}
+use Rattle.packet_out.proofs.PacketLaws.{length-head}
+use Rattle.send_rules.specs.Control.{controlAnswer}
+use Rattle.nonce_out.proofs.SentLaws.{small-version, nonce-answered, nonce-left}
+use Rattle.nonce_out.specs.Nonce.{versionOf, nonceHead, pointOf, nonceBody, nonceStep}
 use Rattle.send.specs.Send.{sendOf, sendBuffer}
 use Rattle.send.specs.declared.ToSend.the-variants.{Nonce}
 use Rattle.link_calls.specs.Calls.{Call, afterCalls}
@@ -55,15 +56,6 @@ module _ (set : Settings) (k : Link) (h : Holds set (heardFrom (set .server)) k)
       go true f t false = low
       go true f t true = f (not-first (k .stage) t)
 
-small-version : (k : Link) → versionOf k < 256
-unfolding versionOf
-small-version k = go (k .set .server) (ltb (k .version) 2) refl
-  where
-    go : (v x : Bool) → ltb (k .version) 2 ≡ x → pick v (pick x (k .version) 2) 2 < 256
-    go true true q = let small = ltb-true (k .version) 2 q in omega arith
-    go true false q = omega arith
-    go false x q = omega arith
-
 -- ---- where it stands: byte 5 of the body, which is byte 17 of the packet
 
 module _ (k : Link) (version time : ℕ) (random rest : List ℕ) where
@@ -92,32 +84,28 @@ module _ (k : Link) (p random b : List ℕ) (m : Moment) (n : ℕ)
   abbrev ours : List ℕ
   ours = nonceBody (versionOf k) (m .time) random
 
-  size-answered : controlAnswer k 0x7acb87aa false (length ours) (length b) ≡ Written n
-  unfolding sendOf nonceStep controlStep
-  size-answered = sym (step-answer k 0x7acb87aa 0 (controlAnswer k 0x7acb87aa false (length ours) (length b))) ∙ e
+  step : nonceStep k random m (length b) .answer ≡ Written n
+  unfolding sendOf
+  step = e
 
   due : maySend (k .set .server) (k .stage) ≡ true
   unfolding controlAnswer
-  due = at-turn k 0x7acb87aa false _ n size-answered
-
-  left : sendBuffer k Nonce p random m b ≡ packetOf k 0x7acb87aa ours ++ drop (length (packetOf k 0x7acb87aa ours)) b
-  unfolding sendBuffer nonceBuffer controlBuffer
-  left =
-      let room = fits k 0x7acb87aa false (length ours) ours 0 b refl n size-answered .1 in
-      ap (bufferBy k 0x7acb87aa ours b) size-answered ∙ front-stored b (packetOf k 0x7acb87aa ours)
-      (omega (arith, length-packet k 0x7acb87aa ours))
+  due = at-turn k 0x7acb87aa false _ n (nonce-answered k random b m n step)
 
   reads-version : le (part (sendBuffer k Nonce p random m b) 17 1) ≡ versionOf k
+  unfolding sendBuffer
   reads-version =
-      ap (λ (t : List ℕ). le (part t 17 1)) left ∙ byte-17 k (versionOf k) (m .time) random _ (small-version k)
+      ap (λ (t : List ℕ). le (part t 17 1)) (nonce-left k random b m n step)
+      ∙ byte-17 k (versionOf k) (m .time) random _ (small-version k)
 
 -- NO OLDER IS WRITTEN: a link that was set up, after any calls, leaves no Nonce in a buffer whose version, which is
 -- byte 17, is below its lowest; at either side
-pub writes-no-older : (set : Settings) (l : Link) → setUpOf set ≡ Ready l
+pub writes-no-older : (set : Settings) (key : Option (List ℕ)) (l : Link) → setUpOf set key ≡ Ready l
     → (cs : List Call) (p random b : List ℕ) (m : Moment) (n : ℕ)
     → sendOf (afterCalls l cs) Nonce p random m (length b) .answer ≡ Written n
     → set .lowest ≤ le (part (sendBuffer (afterCalls l cs) Nonce p random m b) 17 1)
-writes-no-older set l ready cs p random b m n e =
+writes-no-older set key l ready cs p random b m n e =
     let k : Link = afterCalls l cs in
     rw (reads-version k p random b m n e)
-    (version-written set k (holds-from-set-up set l ready cs) (set-up-took set l ready .1) (due k p random b m n e))
+    (version-written set k (holds-from-set-up set key l ready cs) (set-up-took set key l ready .1 .0)
+    (due k p random b m n e))

@@ -10,6 +10,7 @@ mod times;
 
 pub use handshake::flagged;
 pub use handshake::handshake_refusal;
+pub use nonce::least;
 pub use nonce::nonce_refusal;
 pub use pids::net_pids;
 pub use times::clock_difference;

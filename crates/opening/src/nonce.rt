@@ -13,7 +13,7 @@ ghost use mathlib.Core.Path.{_≡_};
 ghost use Rattle.opening.specs.Nonce.{leastOf, cipherRefused, beyondOf, nonceRefusal};
 
 // How long a Nonce's body of this version is at least.
-fn least(version: u8) -> usize
+pub fn least(version: u8) -> usize
     ensures { λ r. ⌜ r ≡ leastOf version ⌝ }
 {
     if version < 2 { 28 } else { 60 }

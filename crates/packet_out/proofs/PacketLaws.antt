@@ -5,10 +5,10 @@ use mathlib.Core.List.{List, [], _∷_, _++_, append-assoc}
 use Prim.Native.Nat.{ℕ, suc, _+_, _≤_, _<_}
 use native.Mathlib.Nat.{add-suc, suc-add}
 use lib.ListN.{length, take, drop, set, replicate, length-append, length-take, length-drop, length-replicate, take-append-drop}
-use lib.Seq.{sets, sets-eq, take-at, drop-drop, drop-set-lt}
+use lib.Seq.{sets, take-at, drop-drop, drop-set-lt}
 use Rattle.wire.specs.Bytes.{part, bytes}
 use Rattle.wire.proofs.ByteLaws.{length-bytes}
-use Rattle.wire.proofs.StoreLaws.{runs-2, runs-3}
+use Rattle.wire.proofs.StoreLaws.{runs-2, runs-3, front-stored}
 use Rattle.link_state.specs.declared.Link.{Link}
 use Rattle.packet_out.specs.Size.{sizeOf}
 use Rattle.packet_out.specs.Packet.{headOf, frontOf, packetOf}
@@ -53,10 +53,6 @@ unfolding bytes
 zeros-3 b at n g h e1 e2 e3 =
     let e : 3 ≡ n = omega arith in
     runs-3 b at (at + 1) (at + 2) (bytes 1 0) (bytes 1 0) (bytes 1 0) e1 e2 e3 refl (omega arith) ∙ ap (λ (k : ℕ). sets b at (replicate k 0)) e
-
--- what was stored, then the rest
-pub front-stored : (b xs : List ℕ) → length xs ≤ length b → sets b 0 xs ≡ xs ++ drop (length xs) b
-front-stored b xs h = let e : 0 + length xs ≡ length xs = omega arith in sets-eq xs b 0 (omega arith) ∙ ap (λ (n : ℕ). xs ++ drop n b) e
 
 pub take-front : (b xs : List ℕ) (n : ℕ) → length xs ≡ n → n ≤ length b → take n (sets b 0 xs) ≡ xs
 take-front b xs n e h = ap (take n) (front-stored b xs (omega arith)) ∙ take-at xs (drop (length xs) b) n e

@@ -8,13 +8,13 @@ use lib.ListN.{length, take, drop, replicate, length-take, length-drop}
 use lib.Seq.{sets, length-sets}
 use Rattle.wire.specs.Bytes.{part, bytes}
 use Rattle.wire.proofs.ByteLaws.{length-bytes, part-sets}
-use Rattle.wire.proofs.StoreLaws.{runs-3}
+use Rattle.wire.proofs.StoreLaws.{runs-3, front-stored}
 use Rattle.link_state.specs.declared.Link.{Link}
 use Rattle.packet.specs.Sum.{sumOf}
 use Rattle.packet.specs.Padding.{tailOf}
 use Rattle.packet_out.specs.Size.{sizeOf}
 use Rattle.packet_out.specs.Packet.{headOf, frontOf, packetOf, sealedOf}
-use Rattle.packet_out.proofs.PacketLaws.{length-head, length-front, length-packet, front-stored, take-front, drop-sets, store-again}
+use Rattle.packet_out.proofs.PacketLaws.{length-head, length-front, length-packet, take-front, drop-sets, store-again}
 
 -- the room that a size asks
 pub room : (l : Link) (len : ℕ) (n : ℕ) {size : ℕ} → size ≡ sizeOf l len → size ≤ n → len + 16 ≤ n

@@ -293,24 +293,24 @@ module _ (l k : Link) (a : Alive l k) (id : ℕ) (fits : id < 2 ^ 64) (rest : l 
 
 -- ---- from the opening on
 
-module _ (oc os pad : Bool) (lc ls : ℕ) (low-c : lc ≤ 2) (low-s : ls ≤ 2) (c s : Caller)
+module _ (oc os pad : Bool) (lc ls kc ks : ℕ) (low-c : lc ≤ 2) (low-s : ls ≤ 2) (c s : Caller)
     (b1 b2 b3 b4 : List ℕ) (m3 m4 : Moment) (g : Able c s b1 b2 b3 b4) where
   -- the exchange of a fresh client and a fresh server
   abbrev o : Opened
-  o = opens (freshOf (record { server = false; allows = oc; lowest = lc; padded = pad })) (freshOf (record { server = true; allows = os; lowest = ls; padded = pad })) c s b1 b2 b3 b4 m3 m4
+  o = opens (freshOf (record { server = false; allows = oc; lowest = lc; padded = pad }) kc) (freshOf (record { server = true; allows = os; lowest = ls; padded = pad }) ks) c s b1 b2 b3 b4 m3 m4
 
-  abbrev client-is : o .client ≡ during (record { server = false; allows = oc; lowest = lc; padded = pad }) (oc && os) 2 4 (pick pad 3 0) 0 0
-  client-is = opened oc os pad lc ls low-c low-s c s b1 b2 b3 b4 m3 m4 g .0
+  abbrev client-is : o .client ≡ during (record { server = false; allows = oc; lowest = lc; padded = pad }) kc (oc && os) 2 4 (pick pad 3 0) 0 0
+  client-is = opened oc os pad lc ls kc ks low-c low-s c s b1 b2 b3 b4 m3 m4 g .0
 
-  abbrev server-is : o .server ≡ during (record { server = true; allows = os; lowest = ls; padded = pad }) (oc && os) 2 4 (pick pad 3 0) 0 0
-  server-is = opened oc os pad lc ls low-c low-s c s b1 b2 b3 b4 m3 m4 g .1
+  abbrev server-is : o .server ≡ during (record { server = true; allows = os; lowest = ls; padded = pad }) ks (oc && os) 2 4 (pick pad 3 0) 0 0
+  server-is = opened oc os pad lc ls kc ks low-c low-s c s b1 b2 b3 b4 m3 m4 g .1
 
   -- two fresh links that open are alive, and neither awaits a Pong
   pub alive-after-opening : Alive (o .client) (o .server) × ((o .client .awaits ≡ false) × (o .server .awaits ≡ false))
   alive-after-opening = (
     record {
-      there = each-awaits oc os pad lc ls low-c low-s c s b1 b2 b3 b4 m3 m4 g .1;
-      back = each-awaits oc os pad lc ls low-c low-s c s b1 b2 b3 b4 m3 m4 g .0;
+      there = each-awaits oc os pad lc ls kc ks low-c low-s c s b1 b2 b3 b4 m3 m4 g .1;
+      back = each-awaits oc os pad lc ls kc ks low-c low-s c s b1 b2 b3 b4 m3 m4 g .0;
       open-l = rw client-is (lit≤ tt);
       open-k = rw server-is (lit≤ tt);
       number-l = rw client-is (lit< tt);

@@ -7,6 +7,7 @@ use mathlib.Core.Bool.{Bool, true, false, not}
 use mathlib.Core.List.{List, _++_}
 use Prim.Native.Nat.{ℕ, _+_, _≤_, _<_, _^_}
 use lib.ListN.{length, drop}
+use Rattle.wire.proofs.StoreLaws.{front-stored}
 use Rattle.wire.specs.Bytes.{bytes}
 use Rattle.wire.specs.Choice.{pick}
 use Rattle.wire.proofs.ByteLaws.{length-bytes}
@@ -19,7 +20,7 @@ use Rattle.packet.specs.declared.Arrival.the-variants.{Packet}
 use Rattle.packet_out.specs.Packet.{packetOf}
 use Rattle.packet_out.specs.Size.{sizeOf, fitsOf}
 use Rattle.packet_out.specs.declared.Sent.the-variants.{Written}
-use Rattle.packet_out.proofs.PacketLaws.{length-packet, front-stored}
+use Rattle.packet_out.proofs.PacketLaws.{length-packet}
 use Rattle.link.specs.Look.{turnRefusal}
 use Rattle.link.specs.KeepAlive.{awaitsAfter, owesAfter}
 use Rattle.link.specs.Next.{afterOf}

@@ -9,3 +9,4 @@ pub mod KeptAlive
 pub mod Pids
 pub mod Opening
 pub mod InTurn
+pub mod NonceBack

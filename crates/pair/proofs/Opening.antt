@@ -3,19 +3,20 @@ use borrow.Author.Tests.{le-ltb, le-leb}
 use native.Mathlib.Omega.{arith}
 use mathlib.Core.Path.{_≡_, refl, ap, _∙_}
 use mathlib.Core.Bool.{Bool, true, false, not, _&&_, cond}
-use mathlib.Core.List.{List, [], _∷_, _++_, append-assoc}
+use mathlib.Core.List.{List, [], _∷_, _++_}
 use Prim.Native.Nat.{ℕ, zero, suc, _+_, _-_, _/_, _%_, _≤_, _<_, _^_}
 use lib.IntN.{pos, negsuc}
-use lib.ListN.{length, replicate, length-append}
+use lib.ListN.{length, replicate}
 use lib.Dec.{ltb, eqb, lit<}
 use Rattle.wire.specs.Bytes.{le, part, bytes}
 use Rattle.wire.specs.Choice.{pick}
-use Rattle.wire.proofs.ByteLaws.{Small, length-bytes, le-bytes, part-mid}
+use Rattle.wire.proofs.ByteLaws.{Small}
 use Rattle.link_state.specs.declared.Link.{Link}
 use Rattle.link_state.specs.declared.Settings.{Settings}
 use Rattle.link_state.specs.declared.Moment.{Moment}
 use Rattle.link_state.specs.declared.SetUp.the-variants.{Ready}
-use Rattle.link_state.specs.SetUp.{freshOf, setUpOf}
+use Rattle.link_state.specs.SetUp.{freshOf, keyRefused, keyIdOf, setUpOf}
+use mathlib.Core.Option.{Option}
 use Rattle.link_state.proofs.SetUpLaws.{set-up-takes}
 use Rattle.link_state.specs.Turn.{maySend, stageAfter}
 use Rattle.packet.specs.Sum.{castagnoliOf}
@@ -37,7 +38,7 @@ use Rattle.nonce_out.specs.Nonce.{versionOf, nonceHead, pointOf, nonceBody, non
 use Rattle.handshake_out.specs.Handshake.{flagsOf, pidBytes, handshakeBody, handshakeStep, handshakeBuffer}
 use Rattle.send_rules.specs.Sent.{awaitsSent, awaitedSent, owesSent, sentOf}
 use Rattle.opening.specs.declared.NetPid.{NetPid}
-use Rattle.nonce_out.proofs.BodyLaws.{length-nonce}
+use Rattle.nonce_out.proofs.BodyLaws.{length-nonce, nonce-version, nonce-cipher, nonce-time}
 use Rattle.handshake_out.proofs.BodyLaws.{length-handshake}
 use Rattle.pair.specs.Awaits.{Awaits}
 use Rattle.pair.specs.Opens.{during, Caller, Able, Opened, opens}
@@ -76,31 +77,6 @@ module _ (version time : ℕ) (random : List ℕ) where
       (small-append (bytes 2 0) (bytes 4 time) (small-bytes 2 0) (small-bytes 4 time)))))
       (small-append random (replicate 32 0) g (small-zeros 32))
 
-  nonce-version : version < 256 → le (part (nonceBody version time random) 5 1) ≡ version
-  unfolding nonceBody nonceHead
-  nonce-version h =
-      let e : length (bytes 4 0 ++ bytes 1 0) ≡ 5 = simp (length-append, length-bytes) in
-      let T : List ℕ = (bytes 2 0 ++ bytes 4 time) ++ (random ++ pointOf) in
-      let q : (bytes 4 0 ++ (bytes 1 0 ++ (bytes 1 version ++ (bytes 2 0 ++ bytes 4 time)))) ++ (random ++ pointOf) ≡ (bytes 4 0 ++ bytes 1 0) ++ (bytes 1 version ++ T) = simp append-assoc in
-      ap (λ (t : List ℕ). le (part t 5 1)) q
-      ∙ (ap le (part-mid (bytes 4 0 ++ bytes 1 0) (bytes 1 version) T 5 1 e (length-bytes 1 version)) ∙ le-bytes 1 version h)
-
-  nonce-cipher : le (part (nonceBody version time random) 4 1) ≡ 0
-  unfolding nonceBody nonceHead
-  nonce-cipher =
-      let T : List ℕ = (bytes 1 version ++ (bytes 2 0 ++ bytes 4 time)) ++ (random ++ pointOf) in
-      let q : (bytes 4 0 ++ (bytes 1 0 ++ (bytes 1 version ++ (bytes 2 0 ++ bytes 4 time)))) ++ (random ++ pointOf) ≡ bytes 4 0 ++ (bytes 1 0 ++ T) = simp append-assoc in
-      ap (λ (t : List ℕ). le (part t 4 1)) q
-      ∙ (ap le (part-mid (bytes 4 0) (bytes 1 0) T 4 1 (length-bytes 4 0) (length-bytes 1 0)) ∙ le-bytes 1 0 (lit< tt))
-
-  nonce-time : time < 2 ^ 32 → le (part (nonceBody version time random) 8 4) ≡ time
-  unfolding nonceBody nonceHead
-  nonce-time h =
-      let H : List ℕ = bytes 4 0 ++ (bytes 1 0 ++ (bytes 1 version ++ bytes 2 0)) in
-      let e : length H ≡ 8 = simp (length-append, length-bytes) in
-      let q : (bytes 4 0 ++ (bytes 1 0 ++ (bytes 1 version ++ (bytes 2 0 ++ bytes 4 time)))) ++ (random ++ pointOf) ≡ H ++ (bytes 4 time ++ (random ++ pointOf)) = simp append-assoc in
-      ap (λ (t : List ℕ). le (part t 8 4)) q ∙ field H (random ++ pointOf) time 8 e h
-
   -- a Nonce of ours passes, where the clocks are near
   nonce-passes : (set : Settings) (m : Moment) → length random ≡ 16 → version ≤ 2 → set .lowest ≤ version → time < 2 ^ 32 → isNear (clockOf time (m .time)) ≡ true
       → nonceRefusal set (nonceBody version time random) m ≡ 0
@@ -108,9 +84,9 @@ module _ (version time : ℕ) (random : List ℕ) where
   nonce-passes set m n v low t near =
       simp (
         length-nonce version time random n,
-        nonce-version (omega arith),
-        nonce-cipher,
-        nonce-time t,
+        nonce-version version time random (omega arith),
+        nonce-cipher version time random,
+        nonce-time version time random t,
         near,
         le-ltb 2 version v,
         le-ltb version (set .lowest) low,
@@ -186,7 +162,7 @@ hand-size : (p : Bool) → 44 + pick p 0 0 ≡ 44
 hand-size true = refl
 hand-size false = refl
 
-module _ (oc os pad : Bool) (lc ls : ℕ) (low-c : lc ≤ 2) (low-s : ls ≤ 2) (c s : Caller) (b1 b2 b3 b4 : List ℕ) (m3 m4 : Moment) (g : Able c s b1 b2 b3 b4) where
+module _ (oc os pad : Bool) (lc ls kc ks : ℕ) (low-c : lc ≤ 2) (low-s : ls ≤ 2) (c s : Caller) (b1 b2 b3 b4 : List ℕ) (m3 m4 : Moment) (g : Able c s b1 b2 b3 b4) where
   abbrev C : Settings
   C = record { server = false; allows = oc; lowest = lc; padded = pad }
 
@@ -194,28 +170,28 @@ module _ (oc os pad : Bool) (lc ls : ℕ) (low-c : lc ≤ 2) (low-s : ls ≤ 2) 
   S = record { server = true; allows = os; lowest = ls; padded = pad }
 
   abbrev c0 : Link
-  c0 = during C false 0 0 0 4294967294 4294967294
+  c0 = during C kc false 0 0 0 4294967294 4294967294
 
   abbrev s0 : Link
-  s0 = during S false 0 0 0 4294967294 4294967294
+  s0 = during S ks false 0 0 0 4294967294 4294967294
 
   abbrev c1 : Link
-  c1 = during C false 0 1 0 4294967295 4294967294
+  c1 = during C kc false 0 1 0 4294967295 4294967294
 
   abbrev s1 : Link
-  s1 = during S false 2 1 0 4294967294 4294967295
+  s1 = during S ks false 2 1 0 4294967294 4294967295
 
   abbrev s2 : Link
-  s2 = during S false 2 2 0 4294967295 4294967295
+  s2 = during S ks false 2 2 0 4294967295 4294967295
 
   abbrev c2 : Link
-  c2 = during C false 2 2 0 4294967295 4294967295
+  c2 = during C kc false 2 2 0 4294967295 4294967295
 
   abbrev c3 : Link
-  c3 = during C false 2 3 (pick pad 3 0) 0 4294967295
+  c3 = during C kc false 2 3 (pick pad 3 0) 0 4294967295
 
   abbrev s3 : Link
-  s3 = during S (os && oc) 2 3 0 4294967295 0
+  s3 = during S ks (os && oc) 2 3 0 4294967295 0
 
   abbrev nonceC : List ℕ
   nonceC = nonceBody 2 (c .told .time) (c .random)
@@ -263,11 +239,11 @@ module _ (oc os pad : Bool) (lc ls : ℕ) (low-c : lc ≤ 2) (low-s : ls ≤ 2) 
       ∙ rw (hand-flag oc (c .pid) (s .pid))
 
   -- the server's Handshake, still under CRC-32
-  sent4 : handshakeStep s3 (s .pid) (c .pid) (length b4) ≡ record { link = during S (os && oc) 2 4 (pick pad 3 0) 0 0; answer = Written 44 }
+  sent4 : handshakeStep s3 (s .pid) (c .pid) (length b4) ≡ record { link = during S ks (os && oc) 2 4 (pick pad 3 0) 0 0; answer = Written 44 }
   unfolding handshakeStep flagsOf sendRefusal maySend allowedOf sentOf stageAfter awaitsSent awaitedSent owesSent sizeOf tailOf padsOf paddedOf phaseAfter
   sent4 = sends s3 c3 0x7682eef5 (hand (os && oc) (s .pid) (c .pid)) b4 28 (length-handshake _ (s .pid) (c .pid)) (lit< tt) (g .room4) refl (hand-size pad)
 
-  got4 : receiveOf c3 (handshakeBuffer s3 (s .pid) (c .pid) b4) m4 ≡ gives (during C (oc && (os && oc)) 2 4 (pick pad 3 0) 0 0) (Packet 0x7682eef5 44 12 28)
+  got4 : receiveOf c3 (handshakeBuffer s3 (s .pid) (c .pid) b4) m4 ≡ gives (during C kc (oc && (os && oc)) 2 4 (pick pad 3 0) 0 0) (Packet 0x7682eef5 44 12 28)
   unfolding handshakeBuffer castagnoliOf turnRefusal sendRefusal maySend lengthRefusal allowedOf bodyRefusal afterOf agreedAfter versionAfter stageAfter awaitsAfter owesAfter owedAfter flagsOf sizeOf tailOf padsOf paddedOf
   got4 =
       receives s3 c3 0x7682eef5 (hand (os && oc) (s .pid) (c .pid)) b4 28 (length-handshake _ (s .pid) (c .pid)) (lit< tt) (g .room4) refl (hand-size pad) m4
@@ -295,18 +271,19 @@ module _ (oc os pad : Bool) (lc ls : ℕ) (low-c : lc ≤ 2) (low-s : ls ≤ 2) 
   swap false true = refl
   swap false false = refl
 
-  -- set-up hands such links out: it takes every lowest version up to 2
-  pub set-ups : (setUpOf C ≡ Ready (freshOf C)) × (setUpOf S ≡ Ready (freshOf S))
-  set-ups = (set-up-takes C low-c, set-up-takes S low-s)
+  -- set-up hands such links out: it takes every lowest version up to 2, with no key or with one that it does not refuse
+  pub set-ups : (k : Option (List ℕ)) → keyRefused k ≡ false
+      → (setUpOf C k ≡ Ready (freshOf C (keyIdOf k))) × (setUpOf S k ≡ Ready (freshOf S (keyIdOf k)))
+  set-ups k fine = (set-up-takes C k fine low-c, set-up-takes S k fine low-s)
 
   -- the exchange of two fresh links
   abbrev exchange : Opened
-  exchange = opens (freshOf C) (freshOf S) c s b1 b2 b3 b4 m3 m4
+  exchange = opens (freshOf C kc) (freshOf S ks) c s b1 b2 b3 b4 m3 m4
 
   whole : exchange
       ≡ record {
-        client = during C (oc && os) 2 4 (pick pad 3 0) 0 0;
-        server = during S (oc && os) 2 4 (pick pad 3 0) 0 0;
+        client = during C kc (oc && os) 2 4 (pick pad 3 0) 0 0;
+        server = during S ks (oc && os) 2 4 (pick pad 3 0) 0 0;
         sent = Written 76 ∷ Written 76 ∷ Written 44 ∷ Written 44 ∷ [];
         received = Packet 0x7acb87aa 76 12 60 ∷ Packet 0x7acb87aa 76 12 60 ∷ Packet 0x7682eef5 44 12 28 ∷ Packet 0x7682eef5 44 12 28 ∷ [];
       }
@@ -314,7 +291,7 @@ module _ (oc os pad : Bool) (lc ls : ℕ) (low-c : lc ≤ 2) (low-s : ls ≤ 2) 
   whole = rw (sent1, got1, sent2, got2, sent3, got3, sent4, got4, both oc os, swap oc os)
 
   -- THE OPENING: both are open, and CRC-32C is agreed exactly if both allow it
-  pub opened : (exchange .client ≡ during C (oc && os) 2 4 (pick pad 3 0) 0 0) × (exchange .server ≡ during S (oc && os) 2 4 (pick pad 3 0) 0 0)
+  pub opened : (exchange .client ≡ during C kc (oc && os) 2 4 (pick pad 3 0) 0 0) × (exchange .server ≡ during S ks (oc && os) 2 4 (pick pad 3 0) 0 0)
   opened = (ap (λ (o : Opened). o .client) whole, ap (λ (o : Opened). o .server) whole)
 
   -- each waits for the other's next packet

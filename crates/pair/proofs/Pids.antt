@@ -6,6 +6,7 @@ use mathlib.Core.List.{List, _++_}
 use Prim.Native.Nat.{ℕ, _+_, _<_, _^_}
 use lib.ListN.{length, drop}
 use lib.Dec.{ltb, lit<}
+use Rattle.wire.proofs.StoreLaws.{front-stored}
 use Rattle.wire.specs.Bytes.{bytes}
 use Rattle.wire.specs.Choice.{pick}
 use Rattle.wire.proofs.ByteLaws.{Small}
@@ -17,7 +18,7 @@ use Rattle.packet_in.specs.Head.{lengthRefusal}
 use Rattle.packet_out.specs.Size.{sizeOf}
 use Rattle.packet_out.specs.Packet.{packetOf}
 use Rattle.packet_out.specs.declared.Sent.the-variants.{Written}
-use Rattle.packet_out.proofs.PacketLaws.{length-packet, front-stored}
+use Rattle.packet_out.proofs.PacketLaws.{length-packet}
 use Rattle.opening.specs.declared.NetPid.{NetPid}
 use Rattle.opening.specs.declared.NetPids.{NetPids}
 use Rattle.opening.specs.Pids.{PidFits, pidsOf}

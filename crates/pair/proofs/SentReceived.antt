@@ -5,6 +5,7 @@ use mathlib.Core.Bool.{Bool, true}
 use mathlib.Core.List.{List}
 use Prim.Native.Nat.{ℕ, _+_, _<_, _^_}
 use lib.ListN.{length, drop}
+use Rattle.wire.proofs.StoreLaws.{front-stored}
 use Rattle.wire.proofs.ByteLaws.{Small}
 use Rattle.link_state.specs.declared.Link.{Link}
 use Rattle.link_state.specs.declared.Moment.{Moment}
@@ -14,7 +15,7 @@ use Rattle.packet.specs.declared.Arrival.the-variants.{Packet}
 use Rattle.packet_out.specs.Size.{sizeOf}
 use Rattle.packet_out.specs.Packet.{packetOf}
 use Rattle.packet_out.specs.declared.Sent.the-variants.{Written}
-use Rattle.packet_out.proofs.PacketLaws.{length-packet, front-stored}
+use Rattle.packet_out.proofs.PacketLaws.{length-packet}
 use Rattle.link.specs.Next.{afterOf}
 use Rattle.link.specs.Receive.{bodyRefusal, gives, receiveOf}
 use Rattle.send_rules.specs.Control.{controlAnswer, bufferBy, controlBuffer}

@@ -17,8 +17,8 @@ use Rattle.handshake_out.specs.Handshake.{handshakeStep, handshakeBuffer}
 use Rattle.opening.specs.declared.NetPid.{NetPid}
 
 -- a link somewhere in its opening, with no Ping
-abbrev pub during : Settings → Bool → ℕ → ℕ → ℕ → ℕ → ℕ → Link
-during set crc version stage phase sends gets =
+abbrev pub during : Settings → ℕ → Bool → ℕ → ℕ → ℕ → ℕ → ℕ → Link
+during set keyid crc version stage phase sends gets =
     record {
       set = set;
       closed = false;
@@ -26,11 +26,12 @@ during set crc version stage phase sends gets =
       version = version;
       stage = stage;
       phase = phase;
+      awaits = false;
+      owes = false;
+      keyid = keyid;
       sends = sends;
       gets = gets;
-      awaits = false;
       awaited = 0;
-      owes = false;
       owed = 0;
     }
 

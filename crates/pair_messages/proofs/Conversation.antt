@@ -120,21 +120,21 @@ all-heard l k (s ∷ ss) j ok = go (s .ours) (λ l2 k2 j2. all-heard l2 k2 ss j2
 
 -- ---- from the opening on
 
-module _ (oc os pad : Bool) (lc ls : ℕ) (low-c : lc ≤ 2) (low-s : ls ≤ 2) (c s : Caller) (b1 b2 b3 b4 : List ℕ) (m3 m4 : Moment) (g : Able c s b1 b2 b3 b4) where
+module _ (oc os pad : Bool) (lc ls kc ks : ℕ) (low-c : lc ≤ 2) (low-s : ls ≤ 2) (c s : Caller) (b1 b2 b3 b4 : List ℕ) (m3 m4 : Moment) (g : Able c s b1 b2 b3 b4) where
   -- the exchange of a fresh client and a fresh server
   abbrev exchange : Opened
-  exchange = opens (freshOf (record { server = false; allows = oc; lowest = lc; padded = pad })) (freshOf (record { server = true; allows = os; lowest = ls; padded = pad })) c s b1 b2 b3 b4 m3 m4
+  exchange = opens (freshOf (record { server = false; allows = oc; lowest = lc; padded = pad }) kc) (freshOf (record { server = true; allows = os; lowest = ls; padded = pad }) ks) c s b1 b2 b3 b4 m3 m4
 
   joined : Joined (exchange .client) (exchange .server)
   joined =
       record {
-        there = each-awaits oc os pad lc ls low-c low-s c s b1 b2 b3 b4 m3 m4 g .1;
-        back = each-awaits oc os pad lc ls low-c low-s c s b1 b2 b3 b4 m3 m4 g .0;
-        sides = rw (opened oc os pad lc ls low-c low-s c s b1 b2 b3 b4 m3 m4 g .0, opened oc os pad lc ls low-c low-s c s b1 b2 b3 b4 m3 m4 g .1);
-        open-l = rw (opened oc os pad lc ls low-c low-s c s b1 b2 b3 b4 m3 m4 g .0) (lit≤ tt);
-        open-k = rw (opened oc os pad lc ls low-c low-s c s b1 b2 b3 b4 m3 m4 g .1) (lit≤ tt);
-        number-l = rw (opened oc os pad lc ls low-c low-s c s b1 b2 b3 b4 m3 m4 g .0) (lit< tt);
-        number-k = rw (opened oc os pad lc ls low-c low-s c s b1 b2 b3 b4 m3 m4 g .1) (lit< tt);
+        there = each-awaits oc os pad lc ls kc ks low-c low-s c s b1 b2 b3 b4 m3 m4 g .1;
+        back = each-awaits oc os pad lc ls kc ks low-c low-s c s b1 b2 b3 b4 m3 m4 g .0;
+        sides = rw (opened oc os pad lc ls kc ks low-c low-s c s b1 b2 b3 b4 m3 m4 g .0, opened oc os pad lc ls kc ks low-c low-s c s b1 b2 b3 b4 m3 m4 g .1);
+        open-l = rw (opened oc os pad lc ls kc ks low-c low-s c s b1 b2 b3 b4 m3 m4 g .0) (lit≤ tt);
+        open-k = rw (opened oc os pad lc ls kc ks low-c low-s c s b1 b2 b3 b4 m3 m4 g .1) (lit≤ tt);
+        number-l = rw (opened oc os pad lc ls kc ks low-c low-s c s b1 b2 b3 b4 m3 m4 g .0) (lit< tt);
+        number-k = rw (opened oc os pad lc ls kc ks low-c low-s c s b1 b2 b3 b4 m3 m4 g .1) (lit< tt);
       }
 
   -- so all that a client and a server send each other after their opening is heard

@@ -1,5 +1,5 @@
-// The refusal numbers of document 01, by name, in the order of its table: the one place that names them. Definitions in
-// specs/ write the numbers themselves, so that they can be held against the document.
+// The refusal numbers of documents 01 and 02, by name, in their order: the one place that names them. Definitions in
+// specs/ write the numbers themselves, so that they can be held against the documents.
 
 // Packets.
 pub const LENGTH_UNDER_16: u8 = 1;
@@ -68,3 +68,6 @@ pub const NO_SUCH_REQUEST: u8 = 34;
 
 // The event stream.
 pub const EVENT_UNKNOWN_OR_CUT: u8 = 35;
+
+// Keys of links.
+pub const UNSUITABLE_KEY: u8 = 36;

@@ -30,10 +30,11 @@ sentOf l kind id n =
       version = l .version;
       stage = stageAfter (l .stage);
       phase = phaseAfter l n;
+      awaits = awaitsSent l kind;
+      owes = owesSent l kind;
+      keyid = l .keyid;
       sends = (l .sends + 1) % 2 ^ 32;
       gets = l .gets;
-      awaits = awaitsSent l kind;
       awaited = awaitedSent l kind id;
-      owes = owesSent l kind;
       owed = l .owed;
     }

@@ -73,11 +73,12 @@ pub fn sent(link: Link, kind: u32, id: u64, n: usize) -> Link
         version: link.version,
         stage: stage_after(link.stage),
         phase: phase_after(link, n),
+        awaits: awaits_sent(link, kind),
+        owes: owes_sent(link, kind),
+        keyid: link.keyid,
         sends: std::num::wrapping_add_u32(link.sends, 1),
         gets: link.gets,
-        awaits: awaits_sent(link, kind),
         awaited: awaited_sent(link, kind, id),
-        owes: owes_sent(link, kind),
         owed: link.owed,
     }
 }

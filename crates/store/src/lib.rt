@@ -1,4 +1,4 @@
-// Stores of little-endian numbers and of runs of bytes at an offset of a lent slice.
+// Stores of little-endian numbers and of runs of bytes at an offset of a lent slice, and clearing it.
 //
 // Every call is total: what does not fit is left out. Each width is two stores of half the width, so one law serves them
 // all; where the bound is known the compiler makes one store of it. The definitions are crate wire's.
@@ -6,6 +6,7 @@ mod sign;
 
 ghost use mathlib.Core.Path.{_≡_};
 ghost use Prim.Native.Nat.{_/_, _%_};
+ghost use lib.ListN.{length, replicate};
 ghost use lib.Seq.{sets};
 ghost use mir.Syntax.{w32, w64};
 ghost use mir.Val.{ofZ};
@@ -75,6 +76,17 @@ pub fn copy(d: &mut [u8], at: usize, t: &[u8])
             return;
         }
         d[at + i] = t[i];
+        i += 1;
+    }
+}
+
+// Every byte becomes 0.
+pub fn clear(d: &mut [u8])
+    ensures { λ _. ⌜ now (d .exit) ≡ replicate (length (now (d .entry))) 0 ⌝ }
+{
+    let mut i = 0;
+    while i < d.len() {
+        d[i] = 0;
         i += 1;
     }
 }

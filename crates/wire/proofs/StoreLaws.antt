@@ -1,15 +1,15 @@
 -- Laws of runs of stores, over the width. Assumes nothing.
 use mathlib.Core.Path.{_≡_, refl, sym, ap, _∙_}
-use Prim.Native.Nat.{ℕ, zero, suc, _+_, _-_, _/_, _%_, _^_, _≤_, _<_}
+use Prim.Native.Nat.{ℕ, suc, _+_, _-_, _/_, _%_, _^_, _≤_, _<_}
 use native.Mathlib.Nat.{add-suc, add-zero, suc-add, mod-eq-of-lt}
 use native.Mathlib.Numerals.{add-one}
 use native.Mathlib.Omega.{arith}
 use mathlib.Core.List.{List, [], _∷_, _++_, append-nil}
-use lib.ListN.{length, take, drop, getD, set, length-append, length-drop, length-set, drop-of-length-le, take-append-drop}
-use lib.Seq.{sets, length-sets, take-suc, length-take-le, take-all, set-out}
+use lib.ListN.{length, take, drop, getD, set, length-drop, length-set, drop-of-length-le, take-append-drop}
+use lib.Seq.{sets, sets-eq, length-sets, take-suc, length-take-le, take-all, set-out}
 use borrow.Rule.Slice.PartMut.{putMid}
 use Rattle.wire.specs.Bytes.{bytes}
-use Rattle.wire.proofs.ByteLaws.{length-bytes, bytes-add, bytes-low}
+use Rattle.wire.proofs.ByteLaws.{length-bytes, bytes-add, bytes-low, part-sets}
 
 -- one run after another
 pub sets-append : (d : List ℕ) (i : ℕ) (a b : List ℕ) → sets (sets d i a) (i + length a) b ≡ sets d i (a ++ b)
@@ -33,6 +33,17 @@ pub runs-4 : {d₁ d₂ d₃ d₄ : List ℕ} (d : List ℕ) (i j k l : ℕ) (a 
     → d₁ ≡ sets d i a → d₂ ≡ sets d₁ j b → d₃ ≡ sets d₂ k c → d₄ ≡ sets d₃ l e
     → j ≡ i + length a → k ≡ j + length b → l ≡ k + length c → d₄ ≡ sets d i (a ++ (b ++ (c ++ e)))
 runs-4 {d₁} d i j k l a b c e e₁ e₂ e₃ e₄ p q r = runs-2 d i j a (b ++ (c ++ e)) e₁ (runs-3 d₁ j k l b c e e₂ e₃ e₄ q r) p
+
+-- what was stored at the front, then the rest
+pub front-stored : (b xs : List ℕ) → length xs ≤ length b → sets b 0 xs ≡ xs ++ drop (length xs) b
+front-stored b xs h =
+    let e : 0 + length xs ≡ length xs = omega arith in
+    sets-eq xs b 0 (omega arith) ∙ ap (λ (n : ℕ). xs ++ drop n b) e
+
+-- a run as long as the list takes its place
+pub sets-whole : (d t : List ℕ) → length d ≡ length t → sets d 0 t ≡ t
+sets-whole d t e =
+    sym (take-all (length t) (sets d 0 t) (rw length-sets (omega arith))) ∙ part-sets d 0 (length t) t refl (omega arith)
 
 -- nothing is stored past the end
 pub sets-past : (d : List ℕ) (i : ℕ) (b : List ℕ) → length d ≤ i → sets d i b ≡ d

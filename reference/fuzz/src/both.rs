@@ -3,10 +3,12 @@
 
 use crate::compare::{same, Compared, Difference};
 use crate::counts::Counts;
+use crate::draw::SetUp;
 use crate::messages;
 use crate::netpids::{self, netpid};
+use crate::nonces;
 use crate::states::{self, our_settings};
-use reference::link::{packet, Link, Outgoing, Received, Settings};
+use reference::link::{packet, Link, Outgoing, Received, State};
 use reference::message::{Message, Outcome, Side, Span};
 use reference::refusal::Refusal;
 use relay::raw;
@@ -17,6 +19,8 @@ pub struct End {
     pub side: Side,
     pub ours: relay::Link,
     pub second: Link,
+    /// What our link keeps of its key.
+    key_id: [u8; 4],
 }
 
 /// A packet that both programs received.
@@ -41,18 +45,27 @@ pub fn our_side(side: Side) -> relay::Side {
 }
 
 impl End {
-    /// For settings that are not refused.
-    fn new(settings: Settings) -> End {
+    /// For a set-up that is not refused. The second program's link never has a
+    /// key: nothing that goes over the wire may differ by one.
+    fn new(SetUp { settings, key }: SetUp) -> End {
+        let ours = match key {
+            Some(key) => relay::Link::with_key(our_settings(settings), &key),
+            None => relay::Link::new(our_settings(settings)),
+        };
         End {
             side: settings.side,
-            ours: relay::Link::new(our_settings(settings)).expect("a link of ours"),
+            ours: ours.expect("a link of ours"),
             second: Link::set_up(settings).expect("a link of the second program"),
+            key_id: key.map_or([0; 4], |[a, b, c, d, ..]| [a, b, c, d]),
         }
     }
 
     pub fn same_state(&mut self, call: impl FnOnce() -> String) -> Compared {
         let ours = states::ours(self.ours.raw());
-        let second = states::second(self.second.state());
+        let second = State {
+            key_id: self.key_id,
+            ..states::second(self.second.state())
+        };
         same("a link's state", call, ours, second)
     }
 
@@ -79,8 +92,10 @@ impl End {
                 body,
                 ..
             }) => {
-                if packet_type == packet::HANDSHAKE {
-                    netpids::compare(body.of(bytes))?;
+                match packet_type {
+                    packet::NONCE => nonces::compare(body.of(bytes), counts)?,
+                    packet::HANDSHAKE => netpids::compare(body.of(bytes))?,
+                    _ => {}
                 }
                 Taken::Packet(Packet {
                     packet_type,
@@ -266,23 +281,29 @@ fn shown(what: &Outgoing) -> String {
 }
 
 /// Two ends of one connection before its opening.
-pub fn pair(settings: [Settings; 2], counts: &mut Counts) -> [End; 2] {
-    let word = match settings.map(|of_end| of_end.padded) {
+pub fn pair(set_ups: [SetUp; 2], counts: &mut Counts) -> [End; 2] {
+    let word = match set_ups.map(|of_end| of_end.settings.padded) {
         [true, true] => "padded",
         [false, false] => "unpadded",
         _ => "one end padded",
     };
     counts.add("pair", Ok(word));
-    settings.map(End::new)
+    let word = match set_ups.map(|of_end| of_end.key.is_some()) {
+        [true, true] => "both ends",
+        [false, false] => "none",
+        _ => "one end",
+    };
+    counts.add("pair's keys", Ok(word));
+    set_ups.map(End::new)
 }
 
 /// Two ends of one connection that have opened as far as `stage`.
 pub fn opened(
-    settings: [Settings; 2],
+    set_ups: [SetUp; 2],
     stage: usize,
     counts: &mut Counts,
 ) -> Result<[End; 2], Difference> {
-    let mut ends = pair(settings, counts);
+    let mut ends = pair(set_ups, counts);
     let time = 1_700_000_000;
     let nonce = Outgoing::Nonce(time, [7; 16]);
     let handshake = Outgoing::Handshake([1; 12], [2; 12]);

@@ -42,7 +42,7 @@ fn base_time(g: &mut Generator) -> u32 {
 
 impl Pair {
     fn new(g: &mut Generator, counts: &mut Counts) -> Pair {
-        let ends = both::pair(draw::settings(g), counts);
+        let ends = both::pair(draw::set_ups(g), counts);
         let time = base_time(g);
         let skew = g.pick(&[0, 0, 1, 7, 29, 30, 30, 31]);
         let times = [time, time.wrapping_add(skew)];
@@ -172,9 +172,9 @@ fn narrow_room(g: &mut Generator, end: &End, what: &Outgoing) -> usize {
 
 /// One end, whose sends and flushes go nowhere, and packets made for it.
 fn against_a_stranger(g: &mut Generator, counts: &mut Counts) -> Compared {
-    let settings = draw::settings(g);
+    let set_ups = draw::set_ups(g);
     let stage = g.pick(&[0, 0, 0, 1, 2, 3, 4, 4, 4, 4]);
-    let ends = both::opened(settings, stage, counts)?;
+    let ends = both::opened(set_ups, stage, counts)?;
     let mut end = ends[g.below(2) as usize].clone();
     let time = base_time(g);
     let mut left = 5 + g.below(40);

@@ -36,15 +36,32 @@ pub fn near(g: &mut Generator, needed: usize) -> usize {
     needed + 1 - up_to(g, 5)
 }
 
-/// Settings of a client and of a server that no set-up refuses; both are
-/// mostly padded, or both not.
-pub fn settings(g: &mut Generator) -> [Settings; 2] {
+/// What an end is set up with.
+#[derive(Clone, Copy)]
+pub struct SetUp {
+    pub settings: Settings,
+    pub key: Option<[u8; 32]>,
+}
+
+/// Of a client and of a server, and refused by none; both are mostly padded, or
+/// both not. Some have a key.
+pub fn set_ups(g: &mut Generator) -> [SetUp; 2] {
     let padded = coin(g);
-    [Side::Client, Side::Server].map(|side| Settings {
-        lowest_version: g.pick(&[0, 1, 2]),
-        padded: padded != one_in(g, 20),
-        ..Settings::new(side, coin(g))
+    [Side::Client, Side::Server].map(|side| SetUp {
+        settings: Settings {
+            lowest_version: g.pick(&[0, 1, 2]),
+            padded: padded != one_in(g, 20),
+            ..Settings::new(side, coin(g))
+        },
+        key: one_in(g, 3).then(|| link_key(g)),
     })
+}
+
+/// Not with four zeros in front.
+fn link_key(g: &mut Generator) -> [u8; 32] {
+    let mut key = array(g);
+    key[g.below(4) as usize] |= 1;
+    key
 }
 
 /// All ten values that have a meaning at the front of a payload.

@@ -12,9 +12,9 @@ use relay::raw;
 const MOST: usize = 16;
 
 pub fn case(g: &mut Generator, counts: &mut Counts) -> Compared {
-    let settings = draw::settings(g);
+    let set_ups = draw::set_ups(g);
     let stage = g.pick(&[0, 1, 2, 3, 3, 4, 4, 4, 4, 4]);
-    let mut end = both::opened(settings, stage, counts)?[g.below(2) as usize].clone();
+    let mut end = both::opened(set_ups, stage, counts)?[g.below(2) as usize].clone();
     for _ in 0..g.below(4) {
         send_something(g, &mut end, 0, counts)?;
         if one_in(g, 3) {

@@ -12,10 +12,13 @@ mod clocks;
 mod compare;
 mod conversations;
 mod counts;
+mod digests;
 mod draw;
 mod flushes;
+mod keys;
 mod messages;
 mod netpids;
+mod nonces;
 mod options;
 mod packets;
 mod padding;
@@ -89,7 +92,10 @@ fn one(seed: u64, case: u64, counts: &mut Counts) -> Compared {
         2 => clocks::case(g, counts),
         3 => netpids::case(g, counts),
         4..6 => set_ups::case(g, counts),
-        6..32 => messages::case(g, counts),
+        6 => nonces::case(g, counts),
+        7..9 => digests::case(g, counts),
+        9..12 => keys::case(g, counts),
+        12..32 => messages::case(g, counts),
         32..35 => flushes::case(g, counts),
         35..70 => conversations::case(g, counts),
         70..80 => sends::case(g, counts),

@@ -16,9 +16,9 @@ use std::sync::OnceLock;
 const LONGEST_BODY: usize = 16_777_215 - 16;
 
 pub fn case(g: &mut Generator, counts: &mut Counts) -> Compared {
-    let settings = draw::settings(g);
+    let set_ups = draw::set_ups(g);
     let stage = g.pick(&[0, 1, 2, 3, 4, 4, 4, 4, 4, 4]);
-    let ends = both::opened(settings, stage, counts)?;
+    let ends = both::opened(set_ups, stage, counts)?;
     let from = g.below(2) as usize;
     let end = &ends[from];
     if stage == 4 && one_in(g, 1000) {

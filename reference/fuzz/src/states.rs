@@ -12,6 +12,16 @@ pub fn our_settings(settings: Settings) -> relay::Settings {
         .with_padded(settings.padded)
 }
 
+/// The same as they cross the C interface.
+pub fn raw_settings(settings: Settings) -> raw::Settings {
+    raw::Settings {
+        server: settings.side == Side::Server,
+        allows: settings.crc32c_allowed,
+        lowest: settings.lowest_version,
+        padded: settings.padded,
+    }
+}
+
 fn settings(set: raw::Settings) -> Settings {
     let side = if set.server {
         Side::Server
@@ -37,6 +47,7 @@ pub fn ours(link: &raw::Link) -> State {
         awaited: link.awaits.then_some(link.awaited),
         owed: link.owes.then_some(link.owed),
         since_handshake: u64::from(link.phase) * 4,
+        key_id: link.keyid.to_le_bytes(),
     }
 }
 

@@ -26,9 +26,9 @@ const KNOWN: [u32; 9] = [
 ];
 
 pub fn case(g: &mut Generator, counts: &mut Counts) -> Compared {
-    let settings = draw::settings(g);
+    let set_ups = draw::set_ups(g);
     let stage = g.below(5) as usize;
-    let mut end = both::opened(settings, stage, counts)?[g.below(2) as usize].clone();
+    let mut end = both::opened(set_ups, stage, counts)?[g.below(2) as usize].clone();
     if draw::one_in(g, 4) {
         end.receive(&[0; 4], 0, counts)?;
     }

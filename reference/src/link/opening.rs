@@ -40,6 +40,12 @@ impl Stage {
 pub const OUR_VERSION: u8 = 2;
 const FARTHEST_CLOCK: i64 = 30;
 
+/// Version 2 brought the DH point, and later ones keep it: document 01 wants
+/// room for it in all of them.
+pub fn has_point(version: u8) -> bool {
+    version >= 2
+}
+
 /// What a Nonce says that we heed.
 pub struct Nonce {
     pub encryption: u8,
@@ -48,10 +54,10 @@ pub struct Nonce {
 }
 
 impl Nonce {
-    /// Without the DH point it has 28 bytes; version 2 brought the point.
+    /// Without the DH point it has 28 bytes, with it 60.
     pub fn read(body: &[u8]) -> Result<Nonce, Refusal> {
         let shortest = match body.get(5) {
-            Some(version) if *version >= 2 => 60,
+            Some(version) if has_point(*version) => 60,
             _ => 28,
         };
         if body.len() < shortest {

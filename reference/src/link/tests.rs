@@ -1,3 +1,5 @@
+mod key;
+mod nonce_fields;
 mod padded;
 mod padded_sending;
 mod versions;

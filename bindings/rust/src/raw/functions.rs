@@ -12,6 +12,7 @@ extern "C" {
     pub fn relay_read_message(server: bool, kind: u32, body: *const u8, n: usize) -> Message;
 
     pub fn relay_set_up(settings: Settings) -> SetUp;
+    pub fn relay_set_up_with_key(settings: Settings, key: *const u8, n: usize) -> SetUp;
     pub fn relay_receive(link: *mut Link, bytes: *const u8, n: usize, moment: Moment) -> Arrival;
     pub fn relay_body(bytes: *const u8, n: usize, arrival: Arrival) -> Part;
     pub fn relay_clock_difference(body: *const u8, n: usize, moment: Moment) -> Clock;
@@ -27,6 +28,18 @@ extern "C" {
         moment: Moment,
     ) -> Sent;
     pub fn relay_flush(link: *mut Link, buf: *mut u8, room: usize) -> Sent;
+
+    pub fn relay_md5(s: *const u8, n: usize) -> Md5Digest;
+    pub fn relay_sha1(s: *const u8, n: usize) -> Sha1Digest;
+    pub fn relay_read_nonce(body: *const u8, n: usize) -> NonceFields;
+    pub fn relay_derive(
+        buf: *mut u8,
+        room: usize,
+        what: Derivation,
+        key: *const u8,
+        n: usize,
+    ) -> Derived;
+    pub fn relay_clear(buf: *mut u8, n: usize);
 
     pub fn relay_fresh(first: PublisherNumber) -> Started;
     pub fn relay_ask(table: *mut Table, link: u8, number: FrontNumber, publisher: u8) -> Asked;

@@ -2,6 +2,7 @@
 //! against numbers; here the Rust side is held against the same lines.
 
 use super::structs::*;
+use crate::keys::{End, Ends, INIT_MESSAGE_MOST};
 use crate::{packet_type as t, FrontNumber, NetPid, NetPids, PublisherNumber, Refusal};
 use std::mem::{offset_of, size_of};
 use std::path::Path;
@@ -63,11 +64,12 @@ fn structs() -> Vec<String> {
                 version,
                 stage,
                 phase,
+                awaits,
+                owes,
+                keyid,
                 sends,
                 gets,
-                awaits,
                 awaited,
-                owes,
                 owed
             }
         ),
@@ -115,6 +117,46 @@ fn structs() -> Vec<String> {
             }
         ),
         lines!(relay_sent, Sent { refusal, size }),
+        lines!(relay_md5_digest, Md5Digest { bytes }),
+        lines!(relay_sha1_digest, Sha1Digest { bytes }),
+        lines!(
+            relay_nonce_fields,
+            NonceFields {
+                refusal,
+                version,
+                time,
+                random,
+                point
+            }
+        ),
+        lines!(
+            relay_end,
+            End {
+                random,
+                time,
+                ip,
+                port
+            }
+        ),
+        lines!(relay_ends, Ends { client, server }),
+        lines!(
+            relay_derivation,
+            Derivation {
+                version,
+                from_server,
+                ends,
+                shared
+            }
+        ),
+        lines!(
+            relay_derived,
+            Derived {
+                refusal,
+                size,
+                key,
+                vector
+            }
+        ),
         lines!(relay_front_number, FrontNumber { value: 0 }),
         lines!(relay_publisher_number, PublisherNumber { value: 0 }),
         lines!(
@@ -176,7 +218,8 @@ fn constants() -> Vec<String> {
     let types = types
         .iter()
         .map(|(name, value)| format!("IS(RELAY_{name}, {value:#010x})"));
-    refusals.chain(types).collect()
+    let most = format!("IS(RELAY_INIT_MESSAGE_MOST, {INIT_MESSAGE_MOST})");
+    refusals.chain(types).chain([most]).collect()
 }
 
 #[test]

@@ -1,6 +1,7 @@
 //! The structs that cross the C interface. What each field means is said in
 //! include/relay.h.
 
+use crate::keys::Ends;
 use crate::{FrontNumber, NetPid, PublisherNumber};
 
 #[repr(C)]
@@ -43,11 +44,12 @@ pub struct Link {
     pub version: u8,
     pub stage: u8,
     pub phase: u8,
+    pub awaits: bool,
+    pub owes: bool,
+    pub keyid: u32,
     pub sends: u32,
     pub gets: u32,
-    pub awaits: bool,
     pub awaited: u64,
-    pub owes: bool,
     pub owed: u64,
 }
 
@@ -107,6 +109,47 @@ pub struct Outgoing {
 pub struct Sent {
     pub refusal: u8,
     pub size: usize,
+}
+
+#[repr(C)]
+#[derive(Clone, Copy, Debug, PartialEq, Eq)]
+pub struct Md5Digest {
+    pub bytes: [u8; 16],
+}
+
+#[repr(C)]
+#[derive(Clone, Copy, Debug, PartialEq, Eq)]
+pub struct Sha1Digest {
+    pub bytes: [u8; 20],
+}
+
+#[repr(C)]
+#[derive(Clone, Copy, Debug, PartialEq, Eq)]
+pub struct NonceFields {
+    pub refusal: u8,
+    pub version: u8,
+    pub time: u32,
+    pub random: Part,
+    pub point: Part,
+}
+
+// No Debug for the two that hold secrets.
+#[repr(C)]
+#[derive(Clone, Copy)]
+pub struct Derivation {
+    pub version: u8,
+    pub from_server: bool,
+    pub ends: Ends,
+    pub shared: [u8; 32],
+}
+
+#[repr(C)]
+#[derive(Clone, Copy)]
+pub struct Derived {
+    pub refusal: u8,
+    pub size: usize,
+    pub key: [u8; 32],
+    pub vector: [u8; 16],
 }
 
 #[repr(C)]

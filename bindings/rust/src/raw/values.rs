@@ -2,6 +2,7 @@
 //! writes gets a value that no other field has and is read here, and each field
 //! that a call reads is written here and seen by what the call does.
 
+mod keys;
 mod links;
 mod messages;
 mod padded;
@@ -47,6 +48,10 @@ const fn settings(server: bool, allows: bool) -> Settings {
 
 fn set_up(settings: Settings) -> SetUp {
     unsafe { relay_set_up(settings) }
+}
+
+fn set_up_with_key(settings: Settings, key: &[u8]) -> SetUp {
+    unsafe { relay_set_up_with_key(settings, key.as_ptr(), key.len()) }
 }
 
 fn link(server: bool, allows: bool) -> Link {

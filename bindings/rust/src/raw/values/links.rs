@@ -12,11 +12,12 @@ pub(super) const TALKING: Link = Link {
     version: 1,
     stage: 4,
     phase: 2,
+    awaits: true,
+    owes: true,
+    keyid: 0x99aa_bbcc,
     sends: 0x1122_3344,
     gets: 0x5566_7788,
-    awaits: true,
     awaited: 0x0102_0304_0506_0708,
-    owes: true,
     owed: 0x1112_1314_1516_1718,
 };
 

@@ -37,6 +37,7 @@ fn sent(server: bool, stage: u8, kind: u32, payload: &[u8]) -> (Vec<u8>, Link) {
         stage,
         sends: 0x0a0b_0c0d,
         version: 1,
+        keyid: 0x99aa_bbcc,
         owes: true,
         owed: 0x6152_4334_2516_0718,
         ..link(server, true)
@@ -47,7 +48,7 @@ fn sent(server: bool, stage: u8, kind: u32, payload: &[u8]) -> (Vec<u8>, Link) {
     let body = &buf[12..sent.size - 4];
     assert_eq!(buf[..sent.size], packet(0x0a0b_0c0d, kind, body));
     assert_eq!(buf[sent.size..], vec![0xee; 200 - sent.size]);
-    assert_eq!(link.sends, 0x0a0b_0c0e);
+    assert_eq!((link.sends, link.keyid), (0x0a0b_0c0e, 0x99aa_bbcc));
     (body.to_vec(), link)
 }
 

@@ -6,6 +6,12 @@ use crate::packet_type::NONCE;
 const TIME: u32 = 1000;
 /// Whether the link is a server's.
 const SIDES: [bool; 2] = [false, true];
+/// As short as a link's may be.
+const KEY: [u8; 32] = {
+    let mut key = [0xee; 32];
+    (key[0], key[1], key[2], key[3]) = (0x11, 0x22, 0x33, 0x44);
+    key
+};
 
 /// All the settings that are not refused.
 fn all_settings() -> impl Iterator<Item = Settings> {
@@ -27,14 +33,20 @@ fn a_fresh_link_keeps_its_settings() {
             version: 0,
             stage: 0,
             phase: 0,
+            awaits: false,
+            owes: false,
+            keyid: 0,
             sends: FIRST_PACKET,
             gets: FIRST_PACKET,
-            awaits: false,
             awaited: 0,
-            owes: false,
             owed: 0,
         };
         assert_eq!(set_up(set), SetUp { refusal: 0, link });
+        let link = Link {
+            keyid: 0x4433_2211,
+            ..link
+        };
+        assert_eq!(set_up_with_key(set, &KEY), SetUp { refusal: 0, link });
     }
 }
 
@@ -48,11 +60,15 @@ fn a_lowest_version_above_2_is_refused_with_a_closed_link() {
     };
     for server in SIDES {
         for lowest in [3, 255] {
-            let mut answer = set_up(Settings {
+            let set = Settings {
                 lowest,
                 padded: true,
                 ..settings(server, true)
-            });
+            };
+            assert_eq!(set_up_with_key(set, &KEY), set_up(set));
+            let unsuitable = set_up_with_key(set, &KEY[1..]);
+            assert_eq!((unsuitable.refusal, unsuitable.link), (36, closed));
+            let mut answer = set_up(set);
             assert_eq!((answer.refusal, answer.link), (30, closed));
             let bytes = packet(FIRST_PACKET, NONCE, &nonce(2, TIME));
             assert_eq!(receive(&mut answer.link, &bytes, TIME).refusal, 20);

@@ -11,9 +11,9 @@ returns c =
       ← c .before .before .before .before .before .before .agreed-after .ensures,
       ← c .before .before .before .before .before .version-after .ensures,
       ← c .before .before .before .before .stage-after .ensures,
-      ← c .before .before .before .wrapping-add-u32 .ensures,
-      ← c .before .before .awaits-after .ensures,
-      ← c .before .owes-after .ensures,
+      ← c .before .before .before .awaits-after .ensures,
+      ← c .before .before .owes-after .ensures,
+      ← c .before .wrapping-add-u32 .ensures,
       c .owed-after .ensures,
     )
 

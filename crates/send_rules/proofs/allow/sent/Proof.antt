@@ -10,10 +10,10 @@ returns c =
     simp (
       ← c .before .before .before .before .before .stage-after .ensures,
       ← c .before .before .before .before .phase-after .ensures,
-      ← c .before .before .before .wrapping-add-u32 .ensures,
-      ← c .before .before .awaits-sent .ensures,
-      ← c .before .awaited-sent .ensures,
-      c .owes-sent .ensures,
+      ← c .before .before .before .awaits-sent .ensures,
+      ← c .before .before .owes-sent .ensures,
+      ← c .before .wrapping-add-u32 .ensures,
+      c .awaited-sent .ensures,
     )
 
 pub sent-spec : {M : Type 1} → statement M

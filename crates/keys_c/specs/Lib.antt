@@ -1,0 +1,2 @@
+-- Definitions of crate keys_c: answers as structs for C.
+pub mod KeyFields

@@ -1,0 +1,2 @@
+-- Laws of crate nonce_in.
+pub mod FieldLaws

@@ -1,0 +1,2 @@
+-- Definitions of crate nonce_in: the fields of a Nonce.
+pub mod Fields
