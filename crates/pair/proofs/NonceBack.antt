@@ -1,15 +1,16 @@
 -- What a send call wrote as our Nonce, as whoever receives it reads it. Assumes nothing.
 use mathlib.Core.Path.{_≡_, sym, ap, _∙_}
-use mathlib.Core.Bool.{true, false}
+use mathlib.Core.Bool.{Bool, true, false}
 use mathlib.Core.List.{List, _++_}
 use native.Mathlib.Omega.{arith}
-use Prim.Native.Nat.{ℕ, _+_, _<_, _^_}
+use Prim.Native.Nat.{ℕ, _+_, _≤_, _<_, _^_}
 use lib.Dec.{lit<}
 use lib.ListN.{length, drop}
 use Rattle.wire.specs.Bytes.{within}
 use Rattle.wire.proofs.ByteLaws.{Small}
 use Rattle.link_state.specs.declared.Link.{Link}
 use Rattle.link_state.specs.declared.Moment.{Moment}
+use Rattle.link_state.specs.SetUp.{freshOf}
 use Rattle.packet.specs.Allowed.{allowedOf}
 use Rattle.packet.specs.Body.{bodyOf}
 use Rattle.packet_in.specs.Head.{lengthRefusal}
@@ -23,10 +24,12 @@ use Rattle.nonce_out.proofs.SentLaws.{small-version, nonce-answered, nonce-left
 use Rattle.nonce_in.specs.declared.NonceRead.the-variants.{Fields}
 use Rattle.nonce_in.specs.Fields.{pointPlace, nonceOf}
 use Rattle.nonce_in.proofs.FieldLaws.{nonce-back, random-back, point-back}
+use Rattle.send_rules.specs.declared.Step.{Step}
 use Rattle.pair.specs.Awaits.{Awaits}
+use Rattle.pair.specs.Opens.{Caller, Able}
 use Rattle.pair.proofs.RoundTrip.{reads-body}
 use Rattle.pair.proofs.SentReceived.{sent-received}
-use Rattle.pair.proofs.Opening.{small-nonce}
+use Rattle.pair.proofs.Opening.{small-nonce, sent1, got1, sent2, got2}
 
 module _ (l : Link) (random b : List ℕ) (m : Moment) (n : ℕ) (e : nonceStep l random m (length b) .answer ≡ Written n)
     (t : m .time < 2 ^ 32) (r : length random ≡ 16) where
@@ -67,7 +70,8 @@ module _ (l : Link) (random b : List ℕ) (m : Moment) (n : ℕ) (e : nonceStep 
         ),
       )
 
-  -- READ BY A PEER: of every link that awaits it, from the place that its receive call names
+  -- READ BY A PEER: of every link that awaits it, takes Nonces now and does not refuse this one, from the place that its
+  -- receive call names
   module _ (k : Link) (m2 : Moment) (a : Awaits k l) (len : lengthRefusal k 76 ≡ 0) (may : allowedOf k 0x7acb87aa ≡ true)
       (number : l .sends < 2 ^ 32) (g : Small random) (ok : bodyRefusal k 0x7acb87aa ours m2 ≡ 0) where
     abbrev named : List ℕ
@@ -92,3 +96,50 @@ module _ (l : Link) (random b : List ℕ) (m : Moment) (n : ℕ) (e : nonceStep 
         }))
         × ((within named 12 16 ≡ random) × (within named 28 32 ≡ pointOf))
     received-nonce-back = rw named-is sent-nonce-back
+
+-- what a body tells of a Nonce of version 2 with this time and these random bytes
+abbrev Tells : List ℕ → ℕ → List ℕ → Type 0
+Tells body time random =
+    (nonceOf body
+    ≡ Fields (record { version = 2; time = time; random = record { at = 12; len = 16 }; point = pointPlace 2 }))
+    × ((within body 12 16 ≡ random) × (within body 28 32 ≡ pointOf))
+
+-- two fresh links that open against each other
+module _ (oc os pad : Bool) (lc ls kc ks : ℕ) (low-c : lc ≤ 2) (low-s : ls ≤ 2) (c s : Caller)
+    (b1 b2 b3 b4 : List ℕ) (m3 m4 : Moment) (g : Able c s b1 b2 b3 b4) where
+  abbrev client : Link
+  client = freshOf (record { server = false; allows = oc; lowest = lc; padded = pad }) kc
+
+  abbrev server : Link
+  server = freshOf (record { server = true; allows = os; lowest = ls; padded = pad }) ks
+
+  -- the client's Nonce, and the server's, which answers it
+  abbrev first-sent : List ℕ
+  first-sent = nonceBuffer client (c .random) (c .told) b1
+
+  abbrev second-sent : List ℕ
+  second-sent = nonceBuffer (receiveOf server first-sent (s .heard) .link) (s .random) (s .told) b2
+
+  -- EACH READS THE OTHER'S NONCE
+  pub server-reads : Tells (bodyOf first-sent (receiveOf server first-sent (s .heard) .answer)) (c .told .time) (c .random)
+  unfolding freshOf bodyOf versionOf
+  server-reads =
+      rw (got1 oc os pad lc ls kc ks low-c low-s c s b1 b2 b3 b4 m3 m4 g)
+      (sent-nonce-back client (c .random) b1 (c .told) 76
+      (ap (λ (x : Step). x .answer) (sent1 oc os pad lc ls kc ks low-c low-s c s b1 b2 b3 b4 m3 m4 g))
+      (g .client-clock) (g .client-random))
+
+  pub client-reads : Tells
+      (bodyOf second-sent
+      (receiveOf (nonceStep client (c .random) (c .told) (length b1) .link) second-sent (c .heard) .answer))
+      (s .told .time) (s .random)
+  unfolding freshOf bodyOf versionOf
+  client-reads =
+      rw (
+        got1 oc os pad lc ls kc ks low-c low-s c s b1 b2 b3 b4 m3 m4 g,
+        sent1 oc os pad lc ls kc ks low-c low-s c s b1 b2 b3 b4 m3 m4 g,
+        got2 oc os pad lc ls kc ks low-c low-s c s b1 b2 b3 b4 m3 m4 g,
+      )
+      (sent-nonce-back _ (s .random) b2 (s .told) 76
+      (ap (λ (x : Step). x .answer) (sent2 oc os pad lc ls kc ks low-c low-s c s b1 b2 b3 b4 m3 m4 g))
+      (g .server-clock) (g .server-random))

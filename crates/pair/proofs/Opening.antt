@@ -200,11 +200,11 @@ module _ (oc os pad : Bool) (lc ls kc ks : ℕ) (low-c : lc ≤ 2) (low-s : ls �
   nonceS = nonceBody 2 (s .told .time) (s .random)
 
   -- the client's Nonce
-  sent1 : nonceStep c0 (c .random) (c .told) (length b1) ≡ record { link = c1; answer = Written 76 }
+  pub sent1 : nonceStep c0 (c .random) (c .told) (length b1) ≡ record { link = c1; answer = Written 76 }
   unfolding nonceStep versionOf sendRefusal maySend allowedOf sentOf stageAfter awaitsSent awaitedSent owesSent sizeOf tailOf padsOf paddedOf phaseAfter
   sent1 = sends c0 s0 0x7acb87aa nonceC b1 60 (length-nonce 2 _ (c .random) (g .client-random)) (lit< tt) (g .room1) refl refl
 
-  got1 : receiveOf s0 (nonceBuffer c0 (c .random) (c .told) b1) (s .heard) ≡ gives s1 (Packet 0x7acb87aa 76 12 60)
+  pub got1 : receiveOf s0 (nonceBuffer c0 (c .random) (c .told) b1) (s .heard) ≡ gives s1 (Packet 0x7acb87aa 76 12 60)
   unfolding nonceBuffer castagnoliOf turnRefusal sendRefusal maySend lengthRefusal allowedOf bodyRefusal afterOf agreedAfter versionAfter stageAfter awaitsAfter owesAfter owedAfter versionOf sizeOf tailOf padsOf paddedOf
   got1 =
       receives c0 s0 0x7acb87aa nonceC b1 60 (length-nonce 2 _ (c .random) (g .client-random)) (lit< tt) (g .room1) refl refl (s .heard)
@@ -213,11 +213,11 @@ module _ (oc os pad : Bool) (lc ls kc ks : ℕ) (low-c : lc ≤ 2) (low-s : ls �
       ∙ rw (nonce-version 2 (c .told .time) (c .random) (lit< tt))
 
   -- the server's Nonce
-  sent2 : nonceStep s1 (s .random) (s .told) (length b2) ≡ record { link = s2; answer = Written 76 }
+  pub sent2 : nonceStep s1 (s .random) (s .told) (length b2) ≡ record { link = s2; answer = Written 76 }
   unfolding nonceStep versionOf sendRefusal maySend allowedOf sentOf stageAfter awaitsSent awaitedSent owesSent sizeOf tailOf padsOf paddedOf phaseAfter
   sent2 = sends s1 c1 0x7acb87aa nonceS b2 60 (length-nonce 2 _ (s .random) (g .server-random)) (lit< tt) (g .room2) refl refl
 
-  got2 : receiveOf c1 (nonceBuffer s1 (s .random) (s .told) b2) (c .heard) ≡ gives c2 (Packet 0x7acb87aa 76 12 60)
+  pub got2 : receiveOf c1 (nonceBuffer s1 (s .random) (s .told) b2) (c .heard) ≡ gives c2 (Packet 0x7acb87aa 76 12 60)
   unfolding nonceBuffer castagnoliOf turnRefusal sendRefusal maySend lengthRefusal allowedOf bodyRefusal afterOf agreedAfter versionAfter stageAfter awaitsAfter owesAfter owedAfter versionOf sizeOf tailOf padsOf paddedOf
   got2 =
       receives s1 c1 0x7acb87aa nonceS b2 60 (length-nonce 2 _ (s .random) (g .server-random)) (lit< tt) (g .room2) refl refl (c .heard)
