@@ -8,14 +8,14 @@
 use reference::hash;
 use reference::keys::{derive, Peer, Request};
 use reference::message::Side;
-use std::env;
 use std::hint::black_box;
-use std::io;
 use std::time::Instant;
 
 #[path = "openssl.rs"]
 mod openssl;
-use openssl::Portable;
+#[path = "turns.rs"]
+mod turns;
+use turns::{Turns, PORTABLE};
 
 #[repr(C)]
 struct Md5Digest {
@@ -83,8 +83,6 @@ const WORKS: [(&str, Work); 7] = [
     ("derivation", Work::Derivation),
 ];
 const ROUNDS: u32 = 400;
-/// What the second process of this program is started with.
-const TAKES_TURNS: &str = "takes-turns";
 /// Of version 2 with a key of 32 bytes.
 const MESSAGE: usize = 150;
 
@@ -184,14 +182,6 @@ fn time(candidate: Candidate, work: Work, bytes: &mut Bytes) -> f64 {
     start.elapsed().as_nanos() as f64 / calls as f64
 }
 
-/// Answers each number of a work with a time, until there are no more.
-fn take_turns(bytes: &mut Bytes) {
-    for line in io::stdin().lines() {
-        let index: usize = line.expect("a line").parse().expect("a number");
-        println!("{}", time(by_openssl, WORKS[index].1, bytes));
-    }
-}
-
 /// The second program's answer is also every other candidate's.
 fn compare(candidates: &[Candidate], bytes: &mut Bytes) {
     for (name, work) in WORKS {
@@ -204,7 +194,7 @@ fn compare(candidates: &[Candidate], bytes: &mut Bytes) {
     }
 }
 
-fn measure(bytes: &mut Bytes, portable: &mut Portable) {
+fn measure(bytes: &mut Bytes, portable: &mut Turns) {
     println!("\nNanoseconds a call, and how many times ours is as fast.\n");
     println!("| call | ours | OpenSSL, portable | OpenSSL | second program |");
     println!("|---|---|---|---|---|");
@@ -226,12 +216,12 @@ fn measure(bytes: &mut Bytes, portable: &mut Portable) {
 
 fn main() {
     let mut bytes = Bytes::new();
-    if env::args().nth(1).as_deref() == Some(TAKES_TURNS) {
+    if turns::are_asked() {
         compare(&[by_openssl], &mut bytes);
-        return take_turns(&mut bytes);
+        return turns::take(|index| time(by_openssl, WORKS[index].1, &mut bytes));
     }
     compare(&[ours, by_openssl], &mut bytes);
-    let mut portable = Portable::start(TAKES_TURNS);
+    let mut portable = Turns::start(PORTABLE);
     measure(&mut bytes, &mut portable);
     portable.end();
 }

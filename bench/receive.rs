@@ -27,6 +27,8 @@ struct Settings {
     allows: bool,
     lowest: u8,
     padded: bool,
+    cipher: bool,
+    only: bool,
 }
 
 #[repr(C)]
@@ -46,6 +48,7 @@ struct Link {
     phase: u8,
     awaits: bool,
     owes: bool,
+    ciphered: bool,
     keyid: u32,
     sends: u32,
     gets: u32,
@@ -122,9 +125,10 @@ fn opened(crc32c: bool, padded: bool, payload: &[u8]) -> (Link, Second, Vec<u8>)
     let fresh = |side| Second::set_up(SecondSettings { padded, ..SecondSettings::new(side, crc32c) });
     let mut client = fresh(Side::Client).expect("a link");
     let mut server = fresh(Side::Server).expect("a link");
-    let mut ours = unsafe { relay_set_up(Settings { server: true, allows: crc32c, lowest: 0, padded }) }.link;
+    let set = Settings { server: true, allows: crc32c, lowest: 0, padded, cipher: false, only: false };
+    let mut ours = unsafe { relay_set_up(set) }.link;
     let mut buffer = vec![0; 2 * BODY];
-    for step in [Outgoing::Nonce(TIME, [7; 16]), Outgoing::Handshake([1; 12], [2; 12])] {
+    for step in [Outgoing::Nonce(TIME, [7; 16], [0; 32]), Outgoing::Handshake([1; 12], [2; 12])] {
         let size = client.send(&step, &mut buffer).expect("the client's turn");
         assert_eq!(ours.receive(&buffer[..size]), second(&mut server, &buffer[..size]));
         let size = server.send(&step, &mut buffer).expect("the server's turn");

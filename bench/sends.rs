@@ -32,7 +32,7 @@ fn opened(crc32c: bool, padded: bool) -> (relay::Link, Second) {
     let (mut a, mut b) = ([0; 128], [0; 128]);
     for stage in 0..2 {
         let (here, there) = match stage {
-            0 => (relay::ToSend::Nonce { random: [7; 16] }, Outgoing::Nonce(TIME, [7; 16])),
+            0 => (relay::ToSend::Nonce { random: [7; 16] }, Outgoing::Nonce(TIME, [7; 16], [0; 32])),
             _ => (relay::ToSend::Handshake { sender: pid(0), peer: pid(0) }, Outgoing::Handshake([0; 12], [0; 12])),
         };
         let size = ours.send(&mut a, here, now).expect("our turn");

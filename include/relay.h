@@ -1,4 +1,4 @@
-/* The relay core for C: checksums, RPC messages, links and their keys, and the table of requests in flight.
+/* The relay core for C: checksums, RPC messages, links with their keys and cipher, and the table of requests in flight.
  *
  * Nothing here opens a socket, reads a clock, allocates or draws a random number: the caller lends bytes, time and
  * randomness, and gets answers. Every call has a defined answer for every input, hostile ones included.
@@ -30,7 +30,8 @@ enum {
     RELAY_CHECKSUM = 6,                 /* a packet's checksum is wrong */
     RELAY_OPENING_SHORT = 7,            /* the body of a Nonce or Handshake is too short */
     RELAY_CLOCKS = 8,                   /* the clocks are more than 30 seconds apart */
-    RELAY_ENCRYPTION = 9,               /* the encryption that a Nonce names is not accepted */
+    RELAY_ENCRYPTION = 9,               /* the encryption that a Nonce names is not accepted, or it names another key
+                                           where the cipher is chosen */
     RELAY_BEYOND_OFFER = 10,            /* a version above ours, or CRC-32C granted though not offered */
     RELAY_MESSAGE_CUT = 11,             /* a message ends within a field */
     RELAY_NUMBER_ZERO = 12,             /* a query number is 0 */
@@ -54,8 +55,9 @@ enum {
     RELAY_CAPACITY_GONE = 33,           /* what is left of the 64 places is reserved for other publishers */
     RELAY_NO_SUCH_REQUEST = 34,         /* no such request is in flight */
     RELAY_EVENT_UNKNOWN_OR_CUT = 35,    /* of the program relay_walk alone: an event of no known kind, or cut */
-    RELAY_UNSUITABLE_KEY = 36           /* a key is over 4,096 bytes; a link's is under 32, or has four zero bytes in
-                                           front */
+    RELAY_UNSUITABLE_KEY = 36,          /* a key is over 4,096 bytes; a link's is under 32, or has four zero bytes in
+                                           front, or is not there though the link may cipher */
+    RELAY_NOT_WHOLE_BLOCKS = 37         /* what is to be enciphered or deciphered is not whole blocks of 16 bytes */
 };
 
 /* ---- Packet types ---- */
@@ -122,16 +124,32 @@ typedef struct relay_settings {
     bool allows;    /* CRC-32C is offered by a client, or granted by a server that is offered it */
     uint8_t lowest; /* the lowest version that the other side's Nonce may have, 0 to 2; 0 takes every version */
     bool padded;    /* from the Handshakes on zeros follow each packet up to a multiple of 4 bytes, and up to three
-                       words of value 4 may stand before one; both ends are set alike */
+                       words of value 4 may stand before one; both ends are set alike. A link whose Nonces chose the
+                       cipher is padded so whatever this says */
+    bool cipher;    /* the cipher is offered by a client, or taken by a server that is offered it; such a link is set up
+                       with a key */
+    bool only;      /* with cipher: the link never goes clear. Without cipher it is not heeded */
 } relay_settings;
+
+/* The three settings of the cipher, and the encryption that the Nonces name: 0 is clear, 1 is the cipher, and from a
+ * client anything else leaves it to the server. What does not fit is refused with 9.
+ *
+ *                 cipher  only    a client offers    and takes      a server refuses    and answers
+ *   clear only    false   any     0                  0              1                   0
+ *   cipher only   true    true    1                  1              0                   1
+ *   either        true    false   2                  0 or 1         nothing             0 to 0, 1 to all else
+ *
+ * Where the cipher is chosen, a Nonce with another KeyID than our key's is refused with 9 too. The Nonces are clear: who
+ * can change them under way can have two links that are set to either go clear, or speak an older version. A link that
+ * must be ciphered is set to cipher only, and for forward secrecy with lowest 2. */
 
 /* What the caller gives with each call. */
 typedef struct relay_moment {
     uint32_t time; /* our time, in seconds */
 } relay_moment;
 
-/* A link's state, for its calls alone: made by relay_set_up or relay_set_up_with_key, lent to each call, and updated
- * where it stands. */
+/* A link's state: made by relay_set_up or relay_set_up_with_key, lent to each call, and updated where it stands. Only
+ * the calls write it; a driver may read it, and must read ciphered. */
 typedef struct relay_link {
     relay_settings set;
     bool closed;
@@ -141,6 +159,7 @@ typedef struct relay_link {
     uint8_t phase;    /* on a padded link, the words since the first byte of our Handshake, modulo 4 */
     bool awaits;      /* a Ping of ours is unanswered */
     bool owes;        /* we owe a Pong */
+    bool ciphered;    /* the Nonces chose the cipher: from the Handshakes on the driver ciphers (see below) */
     uint32_t keyid;   /* the first four bytes, as a little-endian number, of the key that the link was set up with, or
                          0: all that a link keeps of a key */
     uint32_t sends;   /* the next packet's number, of each direction */
@@ -156,12 +175,12 @@ typedef struct relay_set_up_answer {
     relay_link link;
 } relay_set_up_answer;
 
-/* A link without a key. Refused with 30 for a lowest version above 2. */
+/* A link without a key. Refused with 36 where the settings have cipher, then with 30 for a lowest version above 2. */
 relay_set_up_answer relay_set_up(relay_settings settings);
 
 /* A link with a key. Refused with 36 for a key over 4,096 or under 32 bytes, an empty one too, or with four zero bytes
- * in front, then with 30. The caller keeps the key, for relay_derive, and clears it. Links do not cipher yet: this one
- * sends and receives as one without a key, and opens with a peer that has another key or none. */
+ * in front, then with 30. The caller keeps the key, for relay_derive, and clears it. Without the cipher in the settings
+ * the link opens as one without a key does, with a peer that has another key or none. */
 relay_set_up_answer relay_set_up_with_key(relay_settings settings, const uint8_t *key, size_t n);
 
 /* What stands at the front of received bytes: relay_arrival.tag. */
@@ -240,6 +259,8 @@ typedef struct relay_outgoing {
     uint8_t random[16]; /* a Nonce's */
     relay_netpid sender; /* a Handshake's: ours, and the other side's */
     relay_netpid peer;
+    uint8_t point[32];   /* a Nonce's, where the link offers or takes the cipher: the card's point. Else it is not read,
+                            and the Nonce has zeros there */
 } relay_outgoing;
 
 /* How many bytes were written at the front of the buffer, a packet's zeros among them, or why none: refusal is 0 where
@@ -258,23 +279,40 @@ relay_sent relay_send(relay_link *link, uint8_t *buf, size_t room, const uint8_t
  * Handshake to a multiple of 16 bytes, and hands back their size: 0, 4, 8 or 12, and 0 before our Handshake and on an
  * unpadded link. Bytes past them stay. Refusals: 20, then 16; after one the link and every byte of buf are as before.
  *
- * When to flush: if the bytes go through a cipher, a driver must flush behind the last packet that it hands over at
- * once, before it waits for anything. A cipher gives out whole blocks of 16 bytes only, so that what lies past the last
- * whole block does not arrive before more follows it. The words go out behind that packet, like a packet. Without a
- * cipher a padded link is read whether it is flushed or not. A flush that is not needed writes nothing. */
+ * When to flush: on a ciphered link, behind the last packet that is handed over at once, before the bytes are
+ * enciphered. The cipher takes whole blocks of 16 bytes only. The words go out behind that packet, like a packet. A
+ * padded link that is not ciphered is read whether it is flushed or not. A flush that is not needed writes nothing. */
 relay_sent relay_flush(relay_link *link, uint8_t *buf, size_t room);
 
-/* ---- Keys of a link ----
+/* ---- A ciphered link, from its set-up on ----
  *
- * What AES-256 in CBC mode needs for each direction of a link, from both Nonces and the link's key. The cipher and the
- * Diffie-Hellman exchange are the caller's. A driver's order of calls, alike at both ends, when both Nonces went over:
+ * From each direction's Handshake on its bytes go through AES-256 in CBC mode. The library has the rules, the keys and
+ * the cipher; the Diffie-Hellman exchange is the caller's (its card's): a key pair for each link, whose point goes into
+ * the Nonce, and of the other's point 32 shared bytes. A driver's order of calls, alike at both ends:
  *
- *   1. relay_read_nonce of the body that relay_body gives, and of the Nonce that it sent itself: what relay_send wrote,
- *      but for the first 12 bytes and the last 4;
- *   2. fill one relay_derivation: the version of the server's Nonce, random and time of each Nonce, in version 0 both
- *      addresses, in version 2 the shared bytes;
- *   3. relay_derive with from_server false, for what the client sends, and true, for what the server sends;
- *   4. relay_clear of what the calls below leave to the caller to clear.
+ *   1. relay_set_up_with_key, with cipher in the settings.
+ *   2. Send and receive the Nonces, in clear. Ours gets 16 random bytes and the card's point.
+ *   3. When both are known, at a server when its own is written and at a client when the server's is received, look at
+ *      link.ciphered. If it is false, go on in clear and clear the key. Else, before anything else is sent or received:
+ *   4. relay_read_nonce of the body that relay_body gave, and of our own Nonce: what relay_send wrote, but for the
+ *      first 12 bytes and the last 4. Fill one relay_derivation: the version of the server's Nonce, random and time of
+ *      each Nonce, in version 0 both addresses, in version 2 the shared bytes.
+ *   5. relay_derive with from_server false, for what the client sends, and true, for what the server sends. Of our own
+ *      direction relay_encipher_keys, of the other relay_decipher_keys; keep these and each direction's vector.
+ *   6. relay_clear of the key, the shared bytes, both init messages and both relay_derived.
+ *   7. Out, from our Handshake on: send any number of packets one behind the other, relay_flush behind the last, then
+ *      relay_encipher of all that was written since the last time (it is whole blocks), keep the vector, and write the
+ *      bytes to the socket. Nothing is written that was not flushed and enciphered.
+ *   8. In, from the first byte behind the other's Nonce on, even if it came in one read with it: relay_decipher of the
+ *      whole blocks that are there, keep the vector, put what is deciphered behind the clear bytes that no packet has
+ *      used yet, and relay_receive of these. The rest of a block waits, as it is, for the bytes behind it.
+ *   9. When the link ends: relay_clear of round keys and vectors.
+ *
+ * With another key at the other end, or after changed bytes, what is deciphered is not what was sent. But for chance
+ * relay_receive refuses it then, by length, number, type or checksum, or waits for bytes that a false length promises.
+ * The cipher hides, it does not authenticate: a CRC is no MAC, and who can change the bytes under way may get changes
+ * past it. And the cipher looks up tables by secret bytes, so that its time depends on them: it is not constant-time.
+ * Both are in docs/DECISIONS.md.
  *
  * No call keeps anything. What a compiler leaves on the stack is not cleared. */
 
@@ -296,8 +334,8 @@ typedef struct relay_nonce_fields {
     uint8_t version;
     uint32_t time;
     relay_part random; /* 16 bytes of the body */
-    relay_part point;  /* 32 bytes from byte 28 of the body on; under version 2 there is none: len is 0. Our links send
-                          zeros, as they do not cipher yet */
+    relay_part point;  /* 32 bytes from byte 28 of the body on; under version 2 there is none: len is 0. Zeros of a link
+                          that neither offers nor takes the cipher */
 } relay_nonce_fields;
 
 /* Refused with 7 for a body under 28 bytes, or under 60 with version 2 or more. Bytes past that are ignored. */
@@ -343,6 +381,37 @@ relay_derived relay_derive(uint8_t *buf, size_t room, relay_derivation what, con
 
 /* Makes every byte 0. A compiler may leave out a memset of what is not read again, but not this call. */
 void relay_clear(uint8_t *buf, size_t n);
+
+/* The key of one direction, as relay_derive gave it, and what AES-256 makes of it once for all its blocks. The caller
+ * clears both. */
+typedef struct relay_cipher_key {
+    uint8_t bytes[32];
+} relay_cipher_key;
+
+typedef struct relay_round_keys {
+    uint8_t bytes[240];
+} relay_round_keys;
+
+/* What a direction's next block is chained to: first the vector of relay_derive, then that of each answer. */
+typedef struct relay_vector {
+    uint8_t bytes[16];
+} relay_vector;
+
+typedef struct relay_chained {
+    uint8_t refusal;     /* 0 or 37 */
+    relay_vector vector; /* for the next call; after a refusal as it was lent */
+} relay_chained;
+
+/* The round keys of FIPS 197's key expansion, for relay_encipher, and those of its equivalent inverse cipher, for
+ * relay_decipher: neither call works with the other's. */
+relay_round_keys relay_encipher_keys(relay_cipher_key key);
+relay_round_keys relay_decipher_keys(relay_cipher_key key);
+
+/* Enciphers or deciphers the bytes where they stand, in CBC mode; none is no block, and right. Two calls in a row, with
+ * the first one's vector lent to the second, do as one call on all the bytes. Refused with 37 for a length that is no
+ * multiple of 16; the bytes and the vector are then as before. */
+relay_chained relay_encipher(uint8_t *buf, size_t n, relay_round_keys keys, relay_vector vector);
+relay_chained relay_decipher(uint8_t *buf, size_t n, relay_round_keys keys, relay_vector vector);
 
 /* ---- The table of requests in flight (document 01: the ticket table) ---- */
 

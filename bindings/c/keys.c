@@ -1,7 +1,6 @@
 /* A client and a server in one process, set up with one key: they exchange their Nonces through a buffer, where a
  * program has a socket, and each derives the keys of both directions from the two Nonces as it has them. Then the
- * vectors that the protocol document prints for version 0. No cipher follows: a program hands it the keys before it
- * clears them.
+ * vectors that the protocol document prints for version 0. What follows on a link that ciphers is in cipher.c.
  *
  *     cc -I include bindings/c/keys.c build/librelay.a -o keys */
 #include "relay.h"

@@ -3,6 +3,7 @@
 //! the two agree, they agree because both follow the documents.
 
 pub mod checksum;
+pub mod cipher;
 pub mod event;
 pub mod generator;
 pub mod hash;

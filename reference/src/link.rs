@@ -1,6 +1,7 @@
 //! A link of document 01, at either side: its whole state, and what both the
 //! receiving and the sending of packets ask of it.
 
+mod choice;
 mod key;
 mod nonce_fields;
 mod opening;
@@ -17,6 +18,7 @@ use crate::refusal::Refusal;
 use opening::Stage;
 use packet::{HANDSHAKE, NONCE, PING, PONG};
 
+pub use choice::Cipher;
 pub use nonce_fields::{nonce_fields, NonceFields};
 pub use opening::{handshake_body, nonce_body, Nonce, FLAG_CRC32C, OUR_VERSION};
 
@@ -29,6 +31,8 @@ pub struct Settings {
     pub lowest_version: u8,
     /// Set by hand at both ends; nothing on the wire tells. False if not said.
     pub padded: bool,
+    /// Clear only if not said.
+    pub cipher: Cipher,
 }
 
 impl Settings {
@@ -39,6 +43,7 @@ impl Settings {
             crc32c_allowed,
             lowest_version: 0,
             padded: false,
+            cipher: Cipher::ClearOnly,
         }
     }
 
@@ -72,6 +77,8 @@ pub struct Link {
     since_handshake: u64,
     /// All that is kept of the key; zeros without one.
     key_id: [u8; 4],
+    /// The Nonces chose the cipher.
+    ciphered: bool,
     closed: bool,
 }
 
@@ -95,6 +102,8 @@ pub struct State {
     pub since_handshake: u64,
     /// Zeros for a link that was set up without a key.
     pub key_id: [u8; 4],
+    /// The cipher was chosen, which their Nonce decides; false before it.
+    pub ciphered: bool,
 }
 
 #[derive(Clone, Copy, Debug, PartialEq, Eq)]
@@ -115,8 +124,9 @@ pub enum Received {
 
 #[derive(Clone, Copy)]
 pub enum Outgoing<'a> {
-    /// Our time and 16 random bytes.
-    Nonce(u32, [u8; 16]),
+    /// Our time, 16 random bytes, and the card's point, which is written only
+    /// where the cipher is offered or taken.
+    Nonce(u32, [u8; 16], [u8; 32]),
     /// Our NetPID and theirs.
     Handshake([u8; 12], [u8; 12]),
     Ping(u64),
@@ -143,8 +153,12 @@ impl Link {
         Link::fresh(Settings::new(side, crc32c_allowed))
     }
 
-    /// A link with all its settings. 30 if its lowest version is above 2.
+    /// A link with all its settings and no key. 36 if it may go ciphered, then
+    /// 30 if its lowest version is above 2.
     pub fn set_up(settings: Settings) -> Result<Link, Refusal> {
+        if settings.cipher != Cipher::ClearOnly {
+            return Err(Refusal::BadKey);
+        }
         settings.judge()?;
         Ok(Link::fresh(settings))
     }
@@ -162,6 +176,7 @@ impl Link {
             owed: None,
             since_handshake: 0,
             key_id: [0; 4],
+            ciphered: false,
             closed: false,
         }
     }
@@ -188,6 +203,7 @@ impl Link {
             owed: self.owed,
             since_handshake: self.since_handshake,
             key_id: self.key_id,
+            ciphered: self.ciphered,
         }
     }
 

@@ -34,6 +34,7 @@ pub enum Refusal {
     NotInFlight = 34,
     BadEvent = 35,
     BadKey = 36,
+    NotWholeBlocks = 37,
 }
 
 impl Refusal {

@@ -1,6 +1,11 @@
 //! The stored inputs of the check programs, and the outputs the documents give
 //! for them.
 
+mod aes_bits;
+mod aes_cases;
+mod aes_cuts;
+mod aes_printed;
+mod aes_random;
 mod checksum_cases;
 mod keys_cases;
 mod keys_digests;
@@ -14,6 +19,14 @@ mod keys_request;
 mod keys_set_ups;
 mod link_bodies;
 mod link_cases;
+mod link_ciphered;
+mod link_ciphered_faults;
+mod link_ciphered_nonces;
+mod link_ciphered_opening;
+mod link_ciphered_pairs;
+mod link_ciphered_random;
+mod link_ciphered_set_ups;
+mod link_ciphered_stream;
 mod link_closing;
 mod link_fronts;
 mod link_openings;
@@ -60,6 +73,12 @@ fn stored(path: &'static str, bytes: Vec<u8>) -> StoredFile {
 
 /// Every stored file, as this program computes it.
 pub fn files() -> Vec<StoredFile> {
+    let mut files = base_files();
+    files.extend(cipher_files());
+    files
+}
+
+fn base_files() -> Vec<StoredFile> {
     let checksum = checksum_cases::input();
     let wire = wire_cases::input();
     let example = walk_cases::example_input();
@@ -67,7 +86,6 @@ pub fn files() -> Vec<StoredFile> {
     let long = walk_long::input();
     let message = message_cases::input();
     let link = link_cases::input();
-    let keys = keys_cases::input();
     vec![
         stored(
             "crates/checksum_check/stdout",
@@ -92,8 +110,17 @@ pub fn files() -> Vec<StoredFile> {
         stored("crates/message_check/stdin", message),
         stored("crates/link_check/stdout", link_cases::output(&link)),
         stored("crates/link_check/stdin", link),
+    ]
+}
+
+fn cipher_files() -> Vec<StoredFile> {
+    let keys = keys_cases::input();
+    let aes = aes_cases::input();
+    vec![
         stored("crates/keys_check/stdout", keys_cases::output(&keys)),
         stored("crates/keys_check/stdin", keys),
+        stored("crates/aes_check/stdout", aes_cases::output(&aes)),
+        stored("crates/aes_check/stdin", aes),
     ]
 }
 

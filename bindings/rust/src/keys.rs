@@ -1,16 +1,17 @@
 //! The keys of a link: what AES-256 in CBC mode needs for each direction, from
-//! both Nonces and the link's key. The cipher and the Diffie-Hellman exchange
-//! are the caller's.
+//! both Nonces and the link's key. The Diffie-Hellman exchange is the caller's,
+//! and the cipher is in [`cipher`](crate::cipher). A [`Session`](crate::Session)
+//! does all of this in its order; the parts are here for other drivers.
 //!
-//! Both ends do alike when both Nonces went over: [read](NonceFields::read) the
-//! one that they received and their own (what `send` wrote, but for the first 12
-//! bytes and the last 4), fill a [`Derivation`], [`derive()`] once for each sender,
-//! and clear.
+//! Both ends do alike when both Nonces went over and chose the cipher:
+//! [read](NonceFields::read) the one that they received and their own (what `send`
+//! wrote, but for the first 12 bytes and the last 4), fill a [`Derivation`],
+//! [`derive()`] once for each sender, make the round keys, and clear.
 //!
-//! No call keeps anything, and nothing is cleared when it is dropped. The caller
-//! clears, when it is done with them, [the keys](Keys::clear), and by [`clear`]
-//! the shared bytes of its derivation and its own copy of the link's key. What
-//! the compiler leaves on the stack is not cleared.
+//! No call keeps anything, and but for a [`Key`] nothing here is cleared when it is
+//! dropped. The caller clears, when it is done with them, [the keys](Keys::clear),
+//! and by [`clear`] the shared bytes of its derivation and its own copy of the
+//! link's key. What the compiler leaves on the stack is not cleared.
 
 use crate::{raw, Refusal, Side};
 use std::fmt;
@@ -34,13 +35,43 @@ pub fn clear(bytes: &mut [u8]) {
     unsafe { raw::relay_clear(bytes.as_mut_ptr(), bytes.len()) }
 }
 
+/// A link's key, cleared when it is dropped.
+///
+/// It is neither `Clone` nor shown, since it is a secret.
+pub struct Key(Vec<u8>);
+
+impl Key {
+    /// A copy; the caller clears its own.
+    pub fn new(bytes: &[u8]) -> Key {
+        Key(bytes.to_vec())
+    }
+
+    pub fn bytes(&self) -> &[u8] {
+        &self.0
+    }
+}
+
+impl Drop for Key {
+    fn drop(&mut self) {
+        clear(&mut self.0);
+    }
+}
+
+/// Without what it has.
+impl fmt::Debug for Key {
+    fn fmt(&self, f: &mut fmt::Formatter) -> fmt::Result {
+        f.debug_struct("Key").finish_non_exhaustive()
+    }
+}
+
 /// What a derivation needs of a Nonce.
 #[derive(Clone, Copy, Debug, PartialEq, Eq)]
 pub struct NonceFields<'a> {
     pub version: u8,
     pub time: u32,
     pub random: &'a [u8; 16],
-    /// Not under version 2. Our links send zeros, as they do not cipher yet.
+    /// Not under version 2. Zeros of a link that neither offers nor takes the
+    /// cipher.
     pub point: Option<&'a [u8; 32]>,
 }
 

@@ -6,8 +6,9 @@
 //! interface and wraps it, so that the compiler keeps what a C caller must keep:
 //! slices that fit, a front number never taken for a publisher's, a link and a
 //! table that only their own calls change. It decides nothing itself and copies
-//! no payload. The types that matter are [`Link`], [`Message`] and [`Table`];
-//! what a cipher needs for a link is in [`keys`].
+//! no payload. The types that matter are [`Link`], [`Message`] and [`Table`].
+//! [`keys`] and [`cipher`] have the parts of a ciphered link, and a [`Session`] is
+//! a link, clear or ciphered, with its bytes: it does all of them in their order.
 //!
 //! ```
 //! use relay::{Arrival, Link, Moment, Settings, Side, ToSend};
@@ -26,6 +27,7 @@
 //! ```
 
 pub mod checksum;
+pub mod cipher;
 pub mod keys;
 mod link;
 mod message;
@@ -38,12 +40,14 @@ mod raw;
 pub mod raw;
 mod refusal;
 mod send;
+mod session;
 mod table;
 
-pub use link::{clock_difference, Arrival, Link, Moment, Settings, Side};
+pub use link::{clock_difference, Arrival, Cipher, Link, Moment, Settings, Side};
 pub use message::{read_message, Answer, Invoke, Message};
 pub use netpid::{net_pids, NetPid, NetPids};
 pub use numbers::{FrontNumber, PublisherNumber};
 pub use refusal::Refusal;
 pub use send::ToSend;
+pub use session::{Address, Addresses, Card, Fault, Packet, Session};
 pub use table::{Table, ALL_ENDS, LINKS, PUBLISHERS};

@@ -1,6 +1,7 @@
 //! Links: their set-up, and receiving.
 
 use crate::{raw, Refusal};
+use std::ops::Range;
 
 /// One end of a connection.
 #[derive(Clone, Copy, Debug, PartialEq, Eq)]
@@ -9,6 +10,21 @@ pub enum Side {
     Client,
     /// Towards a front end.
     Server,
+}
+
+/// Whether a link goes clear or through the cipher. Where the two ends' choices
+/// do not meet, the Nonce is refused with 9.
+#[derive(Clone, Copy, Debug, Default, PartialEq, Eq)]
+pub enum Cipher {
+    /// A client offers 0 and takes 0; a server refuses 1, and answers 0.
+    #[default]
+    ClearOnly,
+    /// A client offers 1 and takes 1; a server refuses 0, and answers 1.
+    CipherOnly,
+    /// A client offers 2 and takes 0 or 1; a server refuses nothing, and answers
+    /// 0 to 0 and 1 to all else. Who can change the Nonces under way, which are
+    /// clear, can have such a link go clear.
+    Either,
 }
 
 /// How a link is set up. Only `new` makes one, so that a setting added later
@@ -25,8 +41,11 @@ pub struct Settings {
     pub lowest: u8,
     /// Whether the link is padded: from the Handshakes on zeros follow each
     /// packet up to a multiple of 4 bytes, and up to three words of value 4 may
-    /// stand before one. Both ends are set alike.
+    /// stand before one. Both ends are set alike. A link whose Nonces chose the
+    /// cipher is padded so whatever this says.
     pub padded: bool,
+    /// A link that may cipher is set up with a key.
+    pub cipher: Cipher,
 }
 
 impl Settings {
@@ -37,6 +56,7 @@ impl Settings {
             crc32c,
             lowest: 0,
             padded: false,
+            cipher: Cipher::ClearOnly,
         }
     }
 
@@ -48,12 +68,18 @@ impl Settings {
         Settings { padded, ..self }
     }
 
+    pub const fn with_cipher(self, cipher: Cipher) -> Settings {
+        Settings { cipher, ..self }
+    }
+
     fn raw(self) -> raw::Settings {
         raw::Settings {
             server: self.side == Side::Server,
             allows: self.crc32c,
             lowest: self.lowest,
             padded: self.padded,
+            cipher: self.cipher != Cipher::ClearOnly,
+            only: self.cipher == Cipher::CipherOnly,
         }
     }
 }
@@ -95,8 +121,8 @@ pub enum Arrival<'a> {
 pub struct Link(pub(crate) raw::Link);
 
 impl Link {
-    /// A link without a key before its opening; refused with 30 for a lowest
-    /// version above 2.
+    /// A link without a key before its opening; refused with 36 where it may
+    /// cipher, then with 30 for a lowest version above 2.
     pub fn new(settings: Settings) -> Result<Link, Refusal> {
         // SAFETY: all is passed by value.
         let answer = unsafe { raw::relay_set_up(settings.raw()) };
@@ -108,9 +134,8 @@ impl Link {
     ///
     /// The link keeps the key's first four bytes, which are no secret, and no
     /// more: the caller keeps the key, for [`derive`](crate::keys::derive), and
-    /// [clears](crate::keys::clear) it. Links do not cipher yet: this one sends
-    /// and receives as one without a key, and opens with a peer that has
-    /// another key or none.
+    /// [clears](crate::keys::clear) it. A link that is set to go clear only opens
+    /// as one without a key does, with a peer that has another key or none.
     pub fn with_key(settings: Settings, key: &[u8]) -> Result<Link, Refusal> {
         let set = settings.raw();
         // SAFETY: the pointer and length are a slice's.
@@ -122,23 +147,32 @@ impl Link {
     /// is refused. Refusals 1 to 10, 17, 21 and 24 to 26 close the link; 20 and
     /// 22 leave it as it was.
     pub fn receive<'a>(&mut self, bytes: &'a [u8], moment: Moment) -> Arrival<'a> {
+        self.receive_at(bytes, moment).0
+    }
+
+    /// The same, and where the body stands in the bytes.
+    pub(crate) fn receive_at<'a>(
+        &mut self,
+        bytes: &'a [u8],
+        moment: Moment,
+    ) -> (Arrival<'a>, Range<usize>) {
         let (start, n) = (bytes.as_ptr(), bytes.len());
         // SAFETY: the link is borrowed, the pointer and length are a slice's.
         let arrival = unsafe { raw::relay_receive(&mut self.0, start, n, moment.raw()) };
-        match arrival.tag {
+        // SAFETY: the pointer and length are a slice's.
+        let body = unsafe { raw::relay_body(start, n, arrival) };
+        let place = body.at..body.at + body.len;
+        let arrival = match arrival.tag {
             0 => Arrival::Refused(Refusal::of(arrival.refusal)),
             1 => Arrival::Incomplete(arrival.more),
-            2 => {
-                // SAFETY: the pointer and length are a slice's.
-                let body = unsafe { raw::relay_body(start, n, arrival) };
-                Arrival::Packet {
-                    kind: arrival.kind,
-                    consumed: arrival.consumed,
-                    body: &bytes[body.at..][..body.len],
-                }
-            }
+            2 => Arrival::Packet {
+                kind: arrival.kind,
+                consumed: arrival.consumed,
+                body: &bytes[place.clone()],
+            },
             other => unreachable!("an arrival with the tag {other}"),
-        }
+        };
+        (arrival, place)
     }
 
     /// Whether a refused packet has closed the link.
@@ -149,6 +183,13 @@ impl Link {
     /// Whether all four packets of the opening went over.
     pub fn is_open(&self) -> bool {
         !self.0.closed && self.0.stage >= 4
+    }
+
+    /// Whether the Nonces chose the cipher: from the Handshakes on all bytes are
+    /// to be deciphered before [`receive`](Link::receive), and flushed and
+    /// enciphered after [`send`](Link::send). [`Session`](crate::Session) does so.
+    pub fn is_ciphered(&self) -> bool {
+        self.0.ciphered
     }
 
     /// The state as it crosses the C interface.

@@ -58,7 +58,8 @@ refusals! {
     CHECKSUM = 6, "a packet's checksum is wrong";
     OPENING_SHORT = 7, "the body of a Nonce or Handshake is too short";
     CLOCKS = 8, "the clocks are more than 30 seconds apart";
-    ENCRYPTION = 9, "the encryption that a Nonce names is not accepted";
+    ENCRYPTION = 9,
+        "the encryption that a Nonce names is not accepted, or it names another key for the cipher";
     BEYOND_OFFER = 10, "a version above ours, or CRC-32C granted though not offered";
     MESSAGE_CUT = 11, "a message ends within a field";
     NUMBER_ZERO = 12, "a query number is 0";
@@ -83,7 +84,9 @@ refusals! {
     NO_SUCH_REQUEST = 34, "no such request is in flight";
     EVENT_UNKNOWN_OR_CUT = 35, "an event of no known kind, or cut: of the program relay_walk alone";
     UNSUITABLE_KEY = 36,
-        "a key is over 4,096 bytes, or a link's is under 32 or has four zero bytes in front";
+        "a key is over 4,096 bytes, or a link's is under 32, has four zero bytes in front, or is not there \
+         though the link may cipher";
+    NOT_WHOLE_BLOCKS = 37, "what is to be enciphered or deciphered is not whole blocks of 16 bytes";
 }
 
 impl fmt::Display for Refusal {

@@ -4,11 +4,22 @@ use crate::packet_type::{HANDSHAKE, NONCE, PING, PONG};
 use crate::raw::{self, Outgoing};
 use crate::{Answer, Link, Message, Moment, NetPid, Refusal};
 
+/// More than any packet has besides its payload or text.
+const AROUND_PAYLOAD: usize = 128;
+
 /// What is to be sent.
 #[derive(Clone, Copy, Debug, PartialEq, Eq)]
 pub enum ToSend<'a> {
+    /// Without a point: of a link that neither offers nor takes the cipher. (A
+    /// [`Session`](crate::Session) puts its card's point in where one belongs.)
     Nonce {
         random: [u8; 16],
+    },
+    /// With the card's point, of a link that offers or takes the cipher. Any
+    /// other link does not read the point, and sends zeros.
+    NonceWithPoint {
+        random: [u8; 16],
+        point: [u8; 32],
     },
     Handshake {
         sender: NetPid,
@@ -49,9 +60,9 @@ impl Link {
     /// Handshake and on an unpadded link. Bytes past them stay. Refused with 20
     /// and with 16; the link and every byte are then as before.
     ///
-    /// Where the bytes go through a cipher, a driver must flush behind the last
-    /// packet that it hands over at once, before it waits: a cipher gives out
-    /// whole blocks of 16 bytes only. One flush too many is harmless.
+    /// On a ciphered link a driver must flush behind the last packet that it hands
+    /// over at once, before it enciphers: the cipher takes whole blocks of 16
+    /// bytes only. One flush too many is harmless.
     pub fn flush(&mut self, buf: &mut [u8]) -> Result<usize, Refusal> {
         // SAFETY: the link is borrowed, the pointer and length are a slice's.
         let sent = unsafe { raw::relay_flush(&mut self.0, buf.as_mut_ptr(), buf.len()) };
@@ -69,6 +80,12 @@ impl<'a> ToSend<'a> {
                 random,
                 ..none
             },
+            ToSend::NonceWithPoint { random, point } => Outgoing {
+                kind: NONCE,
+                random,
+                point,
+                ..none
+            },
             ToSend::Handshake { sender, peer } => Outgoing {
                 kind: HANDSHAKE,
                 sender,
@@ -84,6 +101,11 @@ impl<'a> ToSend<'a> {
             ToSend::Message(message) => return message.fields(),
         };
         (outgoing, &[])
+    }
+
+    /// Room that the packet of it fits, with its zeros.
+    pub(crate) fn room(&self) -> usize {
+        self.fields().1.len() + AROUND_PAYLOAD
     }
 
     /// What crosses the C interface.

@@ -42,6 +42,23 @@ lost: 1, link 4, number 77
     assert_eq!(printed("example"), expected);
 }
 
+#[test]
+fn a_ciphered_link_in_c() {
+    let expected = "\
+client writes 76 bytes
+server writes 76 bytes
+client: version 2, ciphered
+server: version 2, ciphered
+client writes 48 bytes
+server writes 48 bytes
+client writes 48 bytes
+asked: page 1, please
+server writes 48 bytes
+answered: the first page
+";
+    assert_eq!(printed("cipher"), expected);
+}
+
 /// The last six lines are the protocol document's.
 #[test]
 fn keys_in_c() {

@@ -22,22 +22,23 @@ use Rattle.link_state.specs.SetUp as SetUp
 use Rattle.link_state.specs.Turn.{maySend, stageAfter}
 use Rattle.packet.specs.Sum.{castagnoliOf, sumOf}
 use Rattle.packet.specs.Allowed.{allowedOf}
-use Rattle.packet_in.specs.Head.{lengthRefusal, headRefusal}
+use Rattle.packet_head.specs.Head.{lengthRefusal, headRefusal}
 use Rattle.packet.specs.Padding.{paddedOf, padsOf, tailOf, wordsAllowed, phaseAfter}
-use Rattle.packet_in.specs.Words.{wordAt, wordsOf}
+use Rattle.packet_head.specs.Words.{wordAt, wordsOf}
 use Rattle.packet_in.specs.Frame.{wholeOf, rowsOf, frameOf}
 use Rattle.opening.specs.Clock.{clockOf, nonceClock, nearOf}
-use Rattle.opening.specs.Nonce.{leastOf, cipherRefused, beyondOf, nonceRefusal}
+use Rattle.link_cipher.specs.Chosen.{serverRefuses, encryptionRefused, chosenOf, cipherRefused}
+use Rattle.opening.specs.Nonce.{leastOf, beyondOf, nonceRefusal}
 use Rattle.link.specs.Look.{turnRefusal, lookOf}
-use Rattle.link.specs.KeepAlive.{awaitsAfter, owesAfter, owedAfter}
-use Rattle.link.specs.Next.{closedOf, closesOf, refusedOf, agreedAfter, versionAfter, afterOf}
+use Rattle.link_next.specs.KeepAlive.{awaitsAfter, owesAfter, owedAfter}
+use Rattle.link_next.specs.Next.{closedOf, closesOf, refusedOf, agreedAfter, versionAfter, afterOf}
 use Rattle.link.specs.Receive.{bodyRefusal, receiveOf}
 use Rattle.link.specs.declared.Received.{Received}
 use Rattle.packet_out.specs.Size.{sizeOf, fitsOf}
 use Rattle.packet_out.specs.Packet.{headOf, frontOf, packetOf}
 use Rattle.send_rules.specs.Sent.{sentOf}
 use Rattle.send_rules.specs.Control.{sendRefusal, controlAnswer, controlStep}
-use Rattle.nonce_out.specs.Nonce.{nonceHead, pointOf, nonceBody}
+use Rattle.nonce_out.specs.Nonce.{nonceHead, nonceBody}
 use Rattle.keep_alive_out.specs.KeepAlive.{pingStep}
 use Rattle.inflight.specs.Numbers.{same, after}
 use Rattle.inflight.specs.Matching.{matches, matching, without, sumBelow, nextFree}
@@ -47,7 +48,7 @@ use Rattle.inflight.specs.Calls.{cancel, tableAt}
 use Rattle.pair.specs.Awaits.{Awaits}
 use Rattle.pair.proofs.SumLaws.{small-append}
 use Rattle.pair.proofs.RoundTrip.{received, body-refused}
-use Rattle.pair.proofs.Opening.{small-zeros, small-nonce}
+use Rattle.pair.proofs.NoncePasses.{small-zeros, small-nonce}
 use Rattle.cases.specs.Outcome.{refused, packet, loads, accepted, ofArrival, Holds, AllHold}
 use Rattle.cases.specs.Cases.{side, our, inOpening, nonce, timed, asked, loadsOf, asks, filled, fuller}
 use Rattle.cases.specs.Cases.{length16, length15, length1023, length1024, numberSent, numberReceived, clock30Behind, clock30Ahead, clock31Ahead, textExample, actorOnce, actorTwice, actorAgain, loadsFilled, thirdRefused, fourthAccepted, load16, loadsFuller, fifthRefused, fifthAccepted, markerEnds, starredCases, otherCases}
@@ -56,7 +57,7 @@ use Rattle.cases.specs.Cases.{length16, length15, length1023, length1024
 
 -- the server waits for the client's first packet
 awaits : Awaits (SetUp.freshOf (side true) 0) (SetUp.freshOf (side false) 0)
-unfolding SetUp.freshOf castagnoliOf paddedOf turnRefusal maySend
+unfolding SetUp.freshOf castagnoliOf padsOf turnRefusal maySend
 awaits = record { number = refl; checksum = refl; stage = refl; profile = refl; turn = refl }
 
 module _ (body : List ℕ) (n : ℕ) (is : length body ≡ n) (len : lengthRefusal (SetUp.freshOf (side true) 0) (n + 16) ≡ 0) (short : n + 16 < 2 ^ 32) (g : Small body) where
@@ -73,21 +74,21 @@ module _ (body : List ℕ) (n : ℕ) (is : length body ≡ n) (len : lengthRefus
   unfolding SetUp.freshOf sizeOf tailOf padsOf
   size-is = add-zero (n + 16)
 
-  passes : nonceRefusal (side true) body our ≡ 0 → inOpening (nonce body) ≡ packet 0x7acb87aa (n + 16) 12 n
+  passes : nonceRefusal (SetUp.freshOf (side true) 0) body our ≡ 0 → inOpening (nonce body) ≡ packet 0x7acb87aa (n + 16) 12 n
   unfolding SetUp.freshOf allowedOf bodyRefusal
   passes ok =
       ap (λ (s : List ℕ). inOpening s) whole
       ∙ (ap (λ (r : Received). ofArrival (r .answer)) (received client 0x7acb87aa body [] server awaits (ap (λ (x : ℕ). lengthRefusal server (x + 16)) is ∙ len) refl (lit< tt) (rw is short) (lit< tt) g our ok)
       ∙ (ap (λ (x : ℕ). packet 0x7acb87aa (sizeOf client x) 12 x) is ∙ ap (λ (x : ℕ). packet 0x7acb87aa x 12 n) size-is))
 
-  fails : (r : ℕ) → nonceRefusal (side true) body our ≡ r → eqb r 0 ≡ false → inOpening (nonce body) ≡ refused r
+  fails : (r : ℕ) → nonceRefusal (SetUp.freshOf (side true) 0) body our ≡ r → eqb r 0 ≡ false → inOpening (nonce body) ≡ refused r
   unfolding SetUp.freshOf allowedOf bodyRefusal
   fails r bad some =
       ap (λ (s : List ℕ). inOpening s) whole
       ∙ ap (λ (r : Received). ofArrival (r .answer)) (body-refused client 0x7acb87aa body [] server awaits (ap (λ (x : ℕ). lengthRefusal server (x + 16)) is ∙ len) refl (lit< tt) (rw is short) (lit< tt) g our r bad some)
 
 timed-small : (t : ℕ) → Small (timed t)
-timed-small t = small-nonce 2 t (replicate 16 0) (small-zeros 16)
+timed-small t = small-nonce 0 0 2 t (replicate 16 0) (replicate 32 0) (small-zeros 16) (small-zeros 32)
 
 -- ---- the rows
 
@@ -100,7 +101,7 @@ unfolding length15 le bytes turnRefusal maySend lookOf paddedOf wordsAllowed wor
 length-15 = refl
 
 length-1023 : Holds length1023
-unfolding length1023 nonceRefusal leastOf cipherRefused beyondOf nearOf nonceClock clockOf nonceBody nonceHead pointOf le bytes lengthRefusal SetUp.freshOf
+unfolding length1023 nonceRefusal leastOf cipherRefused encryptionRefused serverRefuses chosenOf beyondOf nearOf nonceClock clockOf nonceBody nonceHead le bytes lengthRefusal SetUp.freshOf
 length-1023 = passes (timed 1000 ++ replicate 947 0) 1007 refl refl (lit< tt) (small-append (timed 1000) (replicate 947 0) (timed-small 1000) (small-zeros 947)) refl
 
 length-1024 : Holds length1024
@@ -116,15 +117,15 @@ unfolding numberReceived le bytes clock clocks feed feeds crc maySend stageAfter
 number-received = refl
 
 clock-30-behind : Holds clock30Behind
-unfolding clock30Behind nonceRefusal leastOf cipherRefused beyondOf nearOf nonceClock clockOf nonceBody nonceHead pointOf le bytes lengthRefusal SetUp.freshOf
+unfolding clock30Behind nonceRefusal leastOf cipherRefused encryptionRefused serverRefuses chosenOf beyondOf nearOf nonceClock clockOf nonceBody nonceHead le bytes lengthRefusal SetUp.freshOf
 clock-30-behind = passes (timed 970) 60 refl refl (lit< tt) (timed-small 970) refl
 
 clock-30-ahead : Holds clock30Ahead
-unfolding clock30Ahead nonceRefusal leastOf cipherRefused beyondOf nearOf nonceClock clockOf nonceBody nonceHead pointOf le bytes lengthRefusal SetUp.freshOf
+unfolding clock30Ahead nonceRefusal leastOf cipherRefused encryptionRefused serverRefuses chosenOf beyondOf nearOf nonceClock clockOf nonceBody nonceHead le bytes lengthRefusal SetUp.freshOf
 clock-30-ahead = passes (timed 1030) 60 refl refl (lit< tt) (timed-small 1030) refl
 
 clock-31-ahead : Holds clock31Ahead
-unfolding clock31Ahead nonceRefusal leastOf cipherRefused beyondOf nearOf nonceClock clockOf nonceBody nonceHead pointOf le bytes lengthRefusal SetUp.freshOf
+unfolding clock31Ahead nonceRefusal leastOf cipherRefused encryptionRefused serverRefuses chosenOf beyondOf nearOf nonceClock clockOf nonceBody nonceHead le bytes lengthRefusal SetUp.freshOf
 clock-31-ahead = fails (timed 1031) 60 refl refl (lit< tt) (timed-small 1031) 8 refl refl
 
 text-example : Holds textExample

@@ -35,7 +35,7 @@ _is_ x y = record { ours = x; paper = y }
 
 -- the settings of a server, or of a client
 abbrev pub side : Bool → Settings
-side server = record { server = server; allows = false; lowest = 0; padded = false }
+side server = record { server = server; allows = false; lowest = 0; padded = false; cipher = false; only = false }
 
 -- our clock
 abbrev pub our : Moment
@@ -53,6 +53,7 @@ opened server sends gets =
       phase = 0;
       awaits = false;
       owes = false;
+      ciphered = false;
       keyid = 0;
       sends = sends;
       gets = gets;
@@ -70,7 +71,7 @@ nonce body = packetOf (freshOf (side false) 0) 0x7acb87aa body
 
 -- a Nonce's body, with the client's time
 abbrev pub timed : ℕ → List ℕ
-timed time = nonceBody 2 time (replicate 16 0)
+timed time = nonceBody 0 0 2 time (replicate 16 0) (replicate 32 0)
 
 -- what a server answers after the opening, to these bytes
 abbrev pub afterOpening : List ℕ → Outcome

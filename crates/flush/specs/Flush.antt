@@ -42,6 +42,7 @@ flushedOf l n =
       phase = phaseAfter l n;
       awaits = l .awaits;
       owes = l .owes;
+      ciphered = l .ciphered;
       keyid = l .keyid;
       sends = l .sends;
       gets = l .gets;

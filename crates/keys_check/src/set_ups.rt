@@ -40,6 +40,8 @@ pub(crate) fn record() -> bool {
         allows: head[1] == 1,
         lowest: head[2],
         padded: head[3] == 1,
+        cipher: false,
+        only: false,
     };
     line(set, part(&space, 0, n));
     true

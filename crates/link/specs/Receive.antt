@@ -12,16 +12,16 @@ use Rattle.packet.specs.declared.Arrival.{Arrival}
 use Rattle.packet.specs.declared.Arrival.the-variants.{Incomplete, Packet, Refused}
 use Rattle.opening.specs.Nonce.{nonceRefusal}
 use Rattle.opening.specs.Handshake.{handshakeRefusal}
-use Rattle.link.specs.KeepAlive.{pingRefusal, pongRefusal}
+use Rattle.link_next.specs.KeepAlive.{pingRefusal, pongRefusal}
+use Rattle.link_next.specs.Next.{refusedOf, afterOf}
 use Rattle.link.specs.Look.{lookOf}
-use Rattle.link.specs.Next.{refusedOf, afterOf}
 use Rattle.link.specs.declared.Received.{Received}
 
 -- "then 7 to 10 or 17, 21": what is refused in the bodies that a link itself reads. 0 is none
 unfoldable pub bodyRefusal : Link → ℕ → List ℕ → Moment → ℕ
 bodyRefusal l kind b m =
     first (
-    (eqb kind 0x7acb87aa, nonceRefusal (l .set) b m) ∷
+    (eqb kind 0x7acb87aa, nonceRefusal l b m) ∷
     (eqb kind 0x7682eef5, handshakeRefusal (l .set) b) ∷
     (eqb kind 0x5730a2df, pingRefusal l b) ∷
     (eqb kind 0x8430eaa7, pongRefusal l b) ∷

@@ -1,10 +1,10 @@
 // The by-value core of receive.
 use crate::Received;
-use crate::keep_alive::ping_refusal;
-use crate::keep_alive::pong_refusal;
-use crate::next::after;
-use crate::next::refused;
 use crate::turn::look;
+use link_next::after;
+use link_next::ping_refusal;
+use link_next::pong_refusal;
+use link_next::refused;
 use link_state::Link;
 use link_state::Moment;
 use opening::handshake_refusal;
@@ -24,7 +24,7 @@ fn body_refusal(link: Link, kind: u32, b: &[u8], moment: Moment) -> u8
 {
     let set = link.set;
     if kind == NONCE {
-        return nonce_refusal(set, b, moment);
+        return nonce_refusal(link, b, moment);
     }
     if kind == HANDSHAKE {
         return handshake_refusal(set, b);

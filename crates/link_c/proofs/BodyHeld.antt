@@ -11,7 +11,7 @@ use Rattle.wire.specs.Choice.{pick}
 use Rattle.packet.specs.Body.{bodyOf}
 use Rattle.packet.specs.declared.Arrival.{Arrival}
 use Rattle.packet.specs.declared.Arrival.the-variants.{Incomplete, Packet, Refused}
-use Rattle.link_c.specs.ArrivalFields.{arrivalFields}
+use Rattle.receive_c.specs.ArrivalFields.{arrivalFields}
 use Rattle.link_c.specs.BodyPlace.{nowhere, bodyPlace}
 use Rattle.link_c.specs.declared.RelayPart.{RelayPart}
 

@@ -4,7 +4,7 @@ use Prim.Native.Nat.{ℕ, _+_}
 use mathlib.Core.Bool.{_&&_}
 use lib.Dec.{eqb, leb}
 use Rattle.wire.specs.Choice.{pick}
-use Rattle.link_c.specs.declared.RelayArrival.{RelayArrival}
+use Rattle.receive_c.specs.declared.RelayArrival.{RelayArrival}
 use Rattle.link_c.specs.declared.RelayPart.{RelayPart}
 
 -- no bytes

@@ -1,5 +1,4 @@
 -- Definitions of crate link_c: the answers of a link as structs of numbers and flags.
 pub mod SetUpFields
-pub mod ArrivalFields
 pub mod BodyPlace
 pub mod ClockFields

@@ -9,7 +9,7 @@ use Rattle.link_c.specs.declared.RelaySetUp.{RelaySetUp}
 unfoldable pub noLink : Link
 noLink =
     record {
-      set = record { server = false; allows = false; lowest = 0; padded = false };
+      set = record { server = false; allows = false; lowest = 0; padded = false; cipher = false; only = false };
       closed = true;
       crc32c = false;
       version = 0;
@@ -17,6 +17,7 @@ noLink =
       phase = 0;
       awaits = false;
       owes = false;
+      ciphered = false;
       keyid = 0;
       sends = 0;
       gets = 0;

@@ -1,15 +1,13 @@
-// The C interface of a link, but for sending: each exported function wraps one call of the library and has its contract.
+// The C interface of a link, but for receiving and sending: each exported function wraps one call of the library and has its contract.
 //
 // An enum passes as a struct of numbers and flags, a part of the caller's bytes as a place and a length. Nothing here
-// decides anything: what a call answers is said by the crate that it wraps. The types that matter are `RelayArrival` and
-// the `Link` of crate link_state, which the caller keeps and lends.
-mod arrivals;
+// decides anything: what a call answers is said by the crate that it wraps. The types that matter are `RelaySetUp` and
+// the `Link` of crate link_state, which the caller keeps and lends. Receiving is in the crate `receive_c`.
 mod pids;
 mod place;
 mod start;
 mod times;
 
-pub use arrivals::relay_receive;
 use link_state::Link;
 pub use pids::relay_read_netpids;
 pub use place::relay_body;
@@ -24,20 +22,6 @@ pub struct RelaySetUp {
     pub link: Link,
 }
 
-// What stands at the front of the bytes. tag: 0 refused, 1 incomplete, 2 packet. refusal is the refusal's number; more is
-// how many bytes more are needed; a packet has its type, the bytes it takes, and its body, the len bytes from byte at on.
-// A field that the tag does not have is 0.
-#[repr(C)]
-pub struct RelayArrival {
-    pub tag: u8,
-    pub refusal: u8,
-    pub kind: u32,
-    pub more: usize,
-    pub consumed: usize,
-    pub at: usize,
-    pub len: usize,
-}
-
 // A part of the bytes: the len bytes from byte at on.
 #[repr(C)]
 pub struct RelayPart {
@@ -50,10 +34,4 @@ pub struct RelayPart {
 pub struct RelayClock {
     pub near: bool,
     pub difference: i64,
-}
-
-// The link after a receive call, and the answer.
-struct Answered {
-    link: Link,
-    answer: RelayArrival,
 }

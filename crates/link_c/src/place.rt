@@ -1,6 +1,6 @@
 // The body of a packet, by its place: an exported function cannot hand back a part of the bytes.
-use crate::RelayArrival;
 use crate::RelayPart;
+use receive_c::RelayArrival;
 ghost use mathlib.Core.Path.{_≡_};
 ghost use lib.ListN.{length};
 ghost use Rattle.link_c.specs.BodyPlace.{nowhere, bodyPlace};

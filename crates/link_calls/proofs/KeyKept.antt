@@ -8,7 +8,7 @@ use Rattle.link_state.specs.declared.Settings.{Settings}
 use Rattle.link_state.specs.declared.SetUp.the-variants.{Ready}
 use Rattle.link_state.specs.SetUp.{freshOf, keyIdOf, setUpOf}
 use Rattle.link_state.proofs.SetUpLaws.{set-up-took}
-use Rattle.link.specs.Next.{closedOf, afterOf}
+use Rattle.link_next.specs.Next.{closedOf, afterOf}
 use Rattle.send_rules.specs.Sent.{sentOf}
 use Rattle.send_rules.specs.declared.Step.{Step}
 use Rattle.flush.specs.Flush.{flushedOf}
@@ -18,8 +18,8 @@ use Rattle.link_calls.proofs.Ways.{receive-ways, send-ways, flush-ways}
 by-call : (l : Link) (c : Call) → afterCall l c .keyid ≡ l .keyid
 unfolding closedOf afterOf sentOf flushedOf
 by-call l (receives s m) = receive-ways (λ (x : Link). x .keyid ≡ l .keyid) l s m refl refl (λ turn kind b may ok. refl)
-by-call l (sends w p random m room) =
-    send-ways (λ (x : Step). x .link .keyid ≡ l .keyid) l w p random m room (λ k. refl) (λ id len turn may. refl)
+by-call l (sends w p drawn m room) =
+    send-ways (λ (x : Step). x .link .keyid ≡ l .keyid) l w p drawn m room (λ k. refl) (λ id len turn may. refl)
 by-call l (flushes room) = flush-ways (λ (x : Step). x .link .keyid ≡ l .keyid) l room (λ k. refl) (λ fits. refl)
 
 pub key-id-stays : (l : Link) (cs : List Call) → afterCalls l cs .keyid ≡ l .keyid

@@ -19,19 +19,20 @@ use Rattle.packet.specs.Allowed.{allowedOf, refuses}
 use Rattle.packet.specs.Padding.{tailOf}
 use Rattle.packet.specs.declared.Arrival.{Arrival}
 use Rattle.packet.specs.declared.Arrival.the-variants.{Incomplete, Packet, Refused}
-use Rattle.packet_in.specs.Head.{lengthRefusal, headRefusal}
-use Rattle.packet_in.specs.Words.{wordsOf}
+use Rattle.packet_head.specs.Head.{lengthRefusal, headRefusal}
+use Rattle.packet_head.specs.Words.{wordsOf}
 use Rattle.packet_in.specs.Frame.{lengthAt, numberAt, kindAt, wholeSize, wholeOf, rowsOf, frameOf}
 use Rattle.packet_out.specs.Size.{sizeOf, fitsOf}
 use Rattle.packet_out.specs.declared.Sent as W
 use Rattle.link.specs.Look.{turnRefusal, lookOf}
-use Rattle.link.specs.Next.{closedOf, closesOf, refusedOf, afterOf}
+use Rattle.link_next.specs.Next.{closedOf, closesOf, refusedOf, afterOf}
 use Rattle.link.specs.Receive.{bodyRefusal, gives, refuse, receiveBy, receiveOf}
 use Rattle.link.specs.declared.Received.{Received}
 use Rattle.send_rules.specs.Sent.{sentOf}
 use Rattle.send_rules.specs.Control.{sendRefusal, controlAnswer, stepBy, controlStep}
 use Rattle.send_rules.specs.declared.Step.{Step}
-use Rattle.nonce_out.specs.Nonce.{versionOf, nonceBody, nonceStep}
+use Rattle.nonce_out.specs.Nonce.{ourNonce, nonceStep}
+use Rattle.nonce_out.specs.declared.Drawn.{Drawn}
 use Rattle.handshake_out.specs.Handshake.{flagsOf, handshakeBody, handshakeStep}
 use Rattle.keep_alive_out.specs.KeepAlive.{pingStep, pongStep}
 use Rattle.message_out.specs.Outgoing.{kindOf, bodyOf, wrongWay, numberZero, payloadMisread}
@@ -177,19 +178,19 @@ module _ (P : Step → Type 0) (l : Link) (w : O.Outgoing) (p : List ℕ) (room 
         let r = may-go l (kindOf w) false (refuses-none (sendRefusal l (kindOf w) false) e) in
         fits-ways P l (kindOf w) stays steps 0 (length (bodyOf w p)) room (r .0) (r .1)
 
-pub send-ways : (P : Step → Type 0) (l : Link) (what : ToSend) (p random : List ℕ) (m : Moment) (room : ℕ)
+pub send-ways : (P : Step → Type 0) (l : Link) (what : ToSend) (p : List ℕ) (drawn : Drawn) (m : Moment) (room : ℕ)
     → ((k : ℕ) → P (record { link = l; answer = W.the-variants.Refused k }))
     → ((id len : ℕ) → maySend (l .set .server) (l .stage) ≡ true → allowedOf l (typeOf what) ≡ true
     → P (record { link = sentOf l (typeOf what) id (sizeOf l len); answer = W.the-variants.Written (sizeOf l len) }))
-    → P (sendOf l what p random m room)
+    → P (sendOf l what p drawn m room)
 unfolding sendOf typeOf nonceStep handshakeStep pingStep pongStep
-send-ways P l Nonce p random m room f g =
-    control-ways P l 0x7acb87aa f g false (nonceBody (versionOf l) (m .time) random) 0 room
-send-ways P l (Handshake sender peer) p random m room f g =
+send-ways P l Nonce p drawn m room f g =
+    control-ways P l 0x7acb87aa f g false (ourNonce l drawn m) 0 room
+send-ways P l (Handshake sender peer) p drawn m room f g =
     control-ways P l 0x7682eef5 f g false (handshakeBody (flagsOf l) sender peer) 0 room
-send-ways P l (Ping id) p random m room f g = control-ways P l 0x5730a2df f g (l .awaits) (bytes 8 id) id room
-send-ways P l Pong p random m room f g = control-ways P l 0x8430eaa7 f g (not (l .owes)) (bytes 8 (l .owed)) 0 room
-send-ways P l (Message w) p random m room f g = message-ways P l w p room f g
+send-ways P l (Ping id) p drawn m room f g = control-ways P l 0x5730a2df f g (l .awaits) (bytes 8 id) id room
+send-ways P l Pong p drawn m room f g = control-ways P l 0x8430eaa7 f g (not (l .owes)) (bytes 8 (l .owed)) 0 room
+send-ways P l (Message w) p drawn m room f g = message-ways P l w p room f g
 
 -- ---- flush: it is refused and nothing changes, or the words that are due are written and count
 

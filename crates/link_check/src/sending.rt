@@ -14,6 +14,7 @@ use libc::STDIN_FILENO;
 use link_state::Link;
 use link_state::Moment;
 use message_out::Outgoing;
+use nonce_out::Drawn;
 use opening::NetPid;
 use packet_out::Sent;
 use send::ToSend;
@@ -96,14 +97,23 @@ pub(crate) fn print_answer(word: &[u8], answer: Sent, buffer: &[u8]) {
     }
 }
 
-// The call that head tells, with these bytes as the payload or text.
+// The call that head tells, with these bytes as the payload or text; of a Nonce the first 32 are the point.
 fn call(link: Link, buffer: &mut [u8], head: &[u8], payload: &[u8]) -> Step {
     let mut random = [0u8; 16];
     store::copy(&mut random, 0, wire::part(head, 5, 16));
+    let mut point = [0u8; 32];
+    store::copy(&mut point, 0, front(payload, 32));
     let moment = Moment {
         time: wire::u32_at(head, 1),
     };
-    send_step(link, buffer, what_of(head), payload, random, moment)
+    send_step(
+        link,
+        buffer,
+        what_of(head),
+        payload,
+        Drawn { random, point },
+        moment,
+    )
 }
 
 // The call on a buffer of as many bytes as head tells, and its line.

@@ -15,7 +15,7 @@ use Rattle.packet.specs.Sum.{sumOf}
 use Rattle.packet.specs.Allowed.{refuses}
 use Rattle.packet.specs.declared.Arrival.{Arrival}
 use Rattle.packet.specs.declared.Arrival.the-variants.{Refused}
-use Rattle.packet_in.specs.Words.{wordsOf}
+use Rattle.packet_head.specs.Words.{wordsOf}
 use Rattle.packet_in.specs.Frame.{lengthAt, kindAt, wholeOf, rowsOf, frameOf}
 use Rattle.packet_out.specs.Size.{sizeOf}
 use Rattle.packet_out.specs.Packet.{frontOf, packetOf}

@@ -14,30 +14,30 @@ use Rattle.link_state.specs.declared.Link.{Link}
 use Rattle.link_state.specs.declared.Moment.{Moment}
 use Rattle.packet.specs.Sum.{castagnoliOf}
 use Rattle.packet.specs.Allowed.{allowedOf}
-use Rattle.packet.specs.Padding.{paddedOf, wordsAllowed, foursOf}
+use Rattle.packet.specs.Padding.{paddedOf, padsOf, wordsAllowed, foursOf}
 use Rattle.packet.specs.declared.Arrival.the-variants.{Packet}
-use Rattle.packet_in.specs.Head.{lengthRefusal}
+use Rattle.packet_head.specs.Head.{lengthRefusal}
 use Rattle.packet_out.specs.Size.{sizeOf}
 use Rattle.packet_out.specs.Packet.{packetOf}
 use Rattle.packet_out.specs.declared.Sent.{Sent}
 use Rattle.packet_out.specs.declared.Sent.the-variants.{Written, Refused}
 use Rattle.link.specs.Look.{turnRefusal}
-use Rattle.link.specs.Next.{afterOf}
+use Rattle.link_next.specs.Next.{afterOf}
 use Rattle.link.specs.Receive.{bodyRefusal, gives, receiveOf}
 use Rattle.flush.specs.Flush.{begunOf, wordsDue, flushAnswer, flushedOf, flushBy, flushIn, flushStep, flushBuffer}
 use Rattle.pair.specs.Awaits.{Awaits}
 use Rattle.pair.proofs.Words.{length-fours}
 use Rattle.pair.proofs.RoundTrip.{received-behind}
-use Rattle.link_padding.proofs.Level.{flush-size, flush-fits}
+use Rattle.link_padding.proofs.Counts.{flush-size, flush-fits}
 
 -- a link whose phase alone changed is awaited as before, and awaits as before
 awaited-still : (k l : Link) (n : ℕ) → Awaits k l → Awaits k (flushedOf l n)
-unfolding flushedOf castagnoliOf paddedOf
+unfolding flushedOf castagnoliOf padsOf paddedOf
 awaited-still k l n a =
     record { number = a .number; checksum = a .checksum; stage = a .stage; profile = a .profile; turn = a .turn }
 
 awaits-still : (k l : Link) (n : ℕ) → Awaits l k → Awaits (flushedOf l n) k
-unfolding flushedOf castagnoliOf paddedOf turnRefusal
+unfolding flushedOf castagnoliOf padsOf paddedOf turnRefusal
 awaits-still k l n a =
     record { number = a .number; checksum = a .checksum; stage = a .stage; profile = a .profile; turn = a .turn }
 
@@ -82,8 +82,8 @@ module _ (l : Link) (b : List ℕ) (n : ℕ) (flushed : flushStep l (length b) .
   flush-keeps k = (λ a. rw link-is (awaited-still k l n a), λ a. rw link-is (awaits-still k l n a))
 
   -- SENT BEHIND A FLUSH: the words of a flush and the packet that goes out next, by the link l2 that l has become
-  -- (which received something in between, or not), are received as that packet, whatever bytes follow, by a link of the
-  -- same profile whose opening is over and that waits for it
+  -- (which received something in between, or not), are received as that packet, whatever bytes follow, by a link of
+  -- the same profile whose opening is over and that waits for it
   pub flushed-received : (k l2 : Link) → Awaits k l2 → 4 ≤ k .stage → paddedOf k ≡ paddedOf l
       → (kind : ℕ) (body rest : List ℕ) → lengthRefusal k (length body + 16) ≡ 0 → allowedOf k kind ≡ true
       → l2 .sends < 2 ^ 32 → length body + 16 < 2 ^ 32 → kind < 2 ^ 32 → Small body → (m : Moment)

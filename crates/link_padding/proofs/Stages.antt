@@ -47,7 +47,8 @@ kept server s e = go (ltb s 4) refl server e
 
 -- a packet of ours, of a type that is allowed at our turn: it is our Handshake, or that went out before, exactly from
 -- stage 2 on; and that shows in the stage after it
-module _ (l : Link) (kind : ℕ) (turn : maySend (l .set .server) (l .stage) ≡ true) (may : allowedOf l kind ≡ true) where
+module _ (l : Link) (kind : ℕ) (turn : maySend (l .set .server) (l .stage) ≡ true) (may : allowedOf l kind
+    ≡ true) where
   abbrev stage : ℕ
   stage = l .stage
 
@@ -92,7 +93,8 @@ module _ (l : Link) (kind : ℕ) (turn : maySend (l .set .server) (l .stage) ≡
       go false true p q =
           let g = ltb-false stage 2 p in rw (second-kind g (ltb-true stage 4 q)) (sym (le-leb 2 stage g))
       go false false p q =
-          let h = ltb-false stage 4 q in rw (later-kind h, high (l .set .server) h) (sym (le-leb 2 stage (omega arith)))
+          let h = ltb-false stage 4 q in rw (later-kind h, high (l .set .server) h) (sym (le-leb 2 stage
+          (omega arith)))
 
   next-low : (server : Bool) → stage < 2 → leb (from server) (stage + 1) ≡ false
   next-low true h = lt-leb 4 (stage + 1) (omega arith)

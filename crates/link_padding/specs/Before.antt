@@ -13,7 +13,7 @@ use Rattle.packet.specs.Sum.{sumOf}
 use Rattle.packet.specs.Allowed.{refuses}
 use Rattle.packet.specs.declared.Arrival.{Arrival}
 use Rattle.packet.specs.declared.Arrival.the-variants.{Incomplete, Packet, Refused}
-use Rattle.packet_in.specs.Head.{lengthRefusal, headRefusal}
+use Rattle.packet_head.specs.Head.{lengthRefusal, headRefusal}
 use Rattle.packet_in.specs.Frame.{lengthAt, numberAt, kindAt}
 use Rattle.packet_out.specs.Packet.{frontOf}
 use Rattle.link.specs.Look.{turnRefusal}

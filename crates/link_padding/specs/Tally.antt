@@ -35,8 +35,8 @@ wrote t hand l (Refused k) = record { link = l; begun = t .begun; bytes = t .byt
 -- after a call
 unfoldable pub called : Tally → Call → Tally
 called t (receives s m) = record { link = receiveOf (t .link) s m .link; begun = t .begun; bytes = t .bytes }
-called t (sends what p random m room) =
-    let r = sendOf (t .link) what p random m room in wrote t (eqb (typeOf what) 0x7682eef5) (r .link) (r .answer)
+called t (sends what p drawn m room) =
+    let r = sendOf (t .link) what p drawn m room in wrote t (eqb (typeOf what) 0x7682eef5) (r .link) (r .answer)
 called t (flushes room) = let r = flushStep (t .link) room in wrote t false (r .link) (r .answer)
 
 -- after all of them
@@ -52,5 +52,5 @@ start set keyid = record { link = freshOf set keyid; begun = false; bytes = 0 }
 abbrev pub Quiet : List Call → Type 0
 Quiet [] = Unit {0}
 Quiet (receives s m ∷ cs) = Quiet cs
-Quiet (sends what p random m room ∷ cs) = ⊥
+Quiet (sends what p drawn m room ∷ cs) = ⊥
 Quiet (flushes room ∷ cs) = Quiet cs

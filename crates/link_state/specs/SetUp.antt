@@ -24,6 +24,7 @@ freshOf set keyid =
       phase = 0;
       awaits = false;
       owes = false;
+      ciphered = false;
       keyid = keyid;
       sends = 4294967294;
       gets = 4294967294;
@@ -37,21 +38,26 @@ keyIdOf none = 0
 keyIdOf (some key) = le (part key 0 4)
 
 -- "a key over 4,096 bytes, and on links under 32 or with four zero bytes in front" (document 02, A8)
-unfoldable pub keyRefused : Option (List ℕ) → Bool
-keyRefused none = false
-keyRefused (some key) =
+unfoldable pub keyUnsuitable : List ℕ → Bool
+keyUnsuitable key =
     first (
     (ltb 4096 (length key), true) ∷
     (ltb (length key) 32, true) ∷
     []
     ) (eqb (le (part key 0 4)) 0)
 
+-- "cipher only or either, as client offering .. 1 or 2, the last two with a key" (A9): without one such a link is
+-- refused as with an unsuitable one, and so is a server that takes the cipher
+unfoldable pub keyRefused : Settings → Option (List ℕ) → Bool
+keyRefused set none = set .cipher
+keyRefused set (some key) = keyUnsuitable key
+
 -- what set-up answers: 36 "first of all when a link is set up with one" (A8), then "30 for a lowest version above 2
 -- when a link is set up" (A11)
 unfoldable pub setUpOf : Settings → Option (List ℕ) → SetUp
 setUpOf set key =
     first (
-    (keyRefused key, Refused 36) ∷
+    (keyRefused set key, Refused 36) ∷
     (ltb 2 (set .lowest), Refused 30) ∷
     []
     ) (Ready (freshOf set (keyIdOf key)))

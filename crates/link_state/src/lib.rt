@@ -1,8 +1,8 @@
 // The state of a link between two calls: its settings, where its opening stands, and the next packet numbers.
 //
 // Only numbers and bools (`#[repr(C)]`), so that a caller can lend a link across the C interface. Nothing here reads a
-// byte but a key's first four, or writes one. The types that matter are `Link`, which every call of the crates above takes, and `Moment`, which has
-// what the caller gives with each call.
+// byte but a key's first four, or writes one. The types that matter are `Link`, which every call of the crates above
+// takes, and `Moment`, which has what the caller gives with each call.
 mod start;
 mod turn;
 
@@ -22,8 +22,13 @@ pub struct Settings {
     pub allows: bool,
     // the lowest version that the other side's Nonce may have, 0 to 2: 0 takes every version
     pub lowest: u8,
-    // whether the link is padded: zeros follow each packet, and words may stand between packets, from the Handshakes on
+    // whether the link is padded: zeros follow each packet, and words may stand between packets, from the Handshakes
+    // on
     pub padded: bool,
+    // whether the cipher is offered by a client, or taken by a server; such a link is set up with a key
+    pub cipher: bool,
+    // of such a link: it never goes clear. A link with neither is clear only, as one with this alone is
+    pub only: bool,
 }
 
 // What the caller gives with each call.
@@ -49,6 +54,8 @@ pub struct Link {
     pub awaits: bool,
     // whether we owe a Pong
     pub owes: bool,
+    // whether the Nonces chose the cipher; both directions are ciphered from their Handshakes on
+    pub ciphered: bool,
     // the first four bytes of the key that the link was set up with, or 0: all that a link keeps of it
     pub keyid: u32,
     // the next packet's number, of each direction

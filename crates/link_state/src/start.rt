@@ -12,7 +12,7 @@ ghost use mathlib.Core.Option.{none, some};
 ghost use lib.Dec.{ltb};
 ghost use Rattle.wire.specs.Choice.{first};
 ghost use Rattle.link_state.specs.declared.SetUp.the-variants.{Ready, Refused};
-ghost use Rattle.link_state.specs.SetUp.{freshOf, keyRefused, setUpOf};
+ghost use Rattle.link_state.specs.SetUp.{freshOf, keyUnsuitable, setUpOf};
 
 // The number of each direction's first packet, -2 in 32 bits.
 const FIRST_NUMBER: u32 = 4294967294;
@@ -34,6 +34,7 @@ fn fresh(set: Settings, keyid: u32) -> Link
         phase: 0,
         awaits: false,
         owes: false,
+        ciphered: false,
         keyid,
         sends: FIRST_NUMBER,
         gets: FIRST_NUMBER,
@@ -43,8 +44,8 @@ fn fresh(set: Settings, keyid: u32) -> Link
 }
 
 // Whether a link may not have this key.
-fn key_refused(key: &[u8]) -> bool
-    ensures { λ r. ⌜ r ≡ keyRefused (some (now (key .entry))) ⌝ }
+fn key_unsuitable(key: &[u8]) -> bool
+    ensures { λ r. ⌜ r ≡ keyUnsuitable (now (key .entry)) ⌝ }
 {
     if LONGEST_KEY < key.len() {
         return true;
@@ -65,19 +66,22 @@ fn started(set: Settings, keyid: u32) -> SetUp
     SetUp::Ready(fresh(set, keyid))
 }
 
-// A link without a key before its opening, or 30.
+// A link without a key before its opening, or 36 for one that would offer or take the cipher, then 30.
 pub fn set_up(set: Settings) -> SetUp
     ensures { λ r. ⌜ r ≡ setUpOf set none ⌝ }
 {
+    if set.cipher {
+        return SetUp::Refused(UNSUITABLE_KEY);
+    }
     started(set, 0)
 }
 
-// A link with a key before its opening, or 36 for an unsuitable key, then 30. The link keeps the key's first four bytes
-// and no more: the caller keeps the key.
+// A link with a key before its opening, or 36 for an unsuitable key, then 30. The link keeps the key's first four
+// bytes and no more: the caller keeps the key.
 pub fn set_up_with_key(set: Settings, key: &[u8]) -> SetUp
     ensures { λ r. ⌜ r ≡ setUpOf set (some (now (key .entry))) ⌝ }
 {
-    if key_refused(key) {
+    if key_unsuitable(key) {
         return SetUp::Refused(UNSUITABLE_KEY);
     }
     started(set, u32_at(key, 0))

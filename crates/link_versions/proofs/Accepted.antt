@@ -10,7 +10,6 @@ use lib.ListN.{length}
 use lib.Dec.{ltb, eqb}
 use Rattle.wire.specs.Choice.{pick}
 use Rattle.link_state.specs.declared.Link.{Link}
-use Rattle.link_state.specs.declared.Settings.{Settings}
 use Rattle.link_state.specs.declared.Moment.{Moment}
 use Rattle.link_state.specs.Turn.{maySend}
 use Rattle.packet.specs.Allowed.{allowedOf, refuses}
@@ -23,14 +22,14 @@ use Rattle.link_calls.proofs.Ways.{refuses-none, may-go}
 
 -- ---- a Nonce that is not refused
 
-module _ (set : Settings) (b : List ℕ) (m : Moment) where
-  pub not-older : nonceRefusal set b m ≡ 0 → set .lowest ≤ versionAt b
+module _ (l : Link) (b : List ℕ) (m : Moment) where
+  pub not-older : nonceRefusal l b m ≡ 0 → l .set .lowest ≤ versionAt b
   unfolding nonceRefusal
-  not-older = go (ltb (length b) (leastOf (versionAt b))) (nearOf b m) (ltb (versionAt b) (set .lowest)) refl _
+  not-older = go (ltb (length b) (leastOf (versionAt b))) (nearOf b m) (ltb (versionAt b) (l .set .lowest)) refl _
     where
-      go : (short near old : Bool) → ltb (versionAt b) (set .lowest) ≡ old
-          → (rest : ℕ) → pick short 7 (pick (not near) 8 (pick old 24 rest)) ≡ 0 → set .lowest ≤ versionAt b
-      go short near false q rest e = ltb-false (versionAt b) (set .lowest) q
+      go : (short near old : Bool) → ltb (versionAt b) (l .set .lowest) ≡ old
+          → (rest : ℕ) → pick short 7 (pick (not near) 8 (pick old 24 rest)) ≡ 0 → l .set .lowest ≤ versionAt b
+      go short near false q rest e = ltb-false (versionAt b) (l .set .lowest) q
       go true near true q rest e = absurd (omega arith)
       go false true true q rest e = absurd (omega arith)
       go false false true q rest e = absurd (omega arith)

@@ -22,15 +22,16 @@ use Rattle.packet.specs.Allowed.{allowedOf, refuses}
 use Rattle.packet.specs.Padding.{tailOf}
 use Rattle.packet.specs.declared.Arrival.{Arrival}
 use Rattle.packet.specs.declared.Arrival.the-variants.{Incomplete, Packet, Refused}
-use Rattle.packet_in.specs.Head.{lengthRefusal, headRefusal}
-use Rattle.packet_in.specs.Words.{wordsOf}
+use Rattle.packet_head.specs.Head.{lengthRefusal, headRefusal}
+use Rattle.packet_head.specs.Words.{wordsOf}
 use Rattle.packet_in.specs.Frame.{lengthAt, numberAt, kindAt, wholeSize, wholeOf, rowsOf, frameOf}
 use Rattle.opening.specs.Clock.{nearOf}
-use Rattle.opening.specs.Nonce.{leastOf, versionAt, cipherRefused, beyondOf, nonceRefusal}
+use Rattle.link_cipher.specs.Chosen.{cipherRefused}
+use Rattle.opening.specs.Nonce.{leastOf, versionAt, beyondOf, nonceRefusal}
 use Rattle.opening.specs.Handshake.{flagOf, handshakeRefusal}
-use Rattle.link.specs.KeepAlive.{idAt, pingRefusal, pongRefusal}
+use Rattle.link_next.specs.KeepAlive.{idAt, pingRefusal, pongRefusal}
 use Rattle.link.specs.Look.{turnRefusal, lookOf}
-use Rattle.link.specs.Next.{closesOf, refusedOf}
+use Rattle.link_next.specs.Next.{closesOf, refusedOf}
 use Rattle.link.specs.Receive.{bodyRefusal, refuse, receiveBy, receiveOf}
 use Rattle.link_calls.specs.Calls.{Call, afterCalls}
 use Rattle.link_versions.specs.Before.{nonceBefore, bodyBefore, closesBefore, refuseBefore}
@@ -62,12 +63,12 @@ module _ (l : Link) (len number kind : ℕ) (b : List ℕ) (m : Moment) where
       by-row No24 (not (eqb number (l .gets))) 4 _ (λ _. refl)
       (λ _. by-row No24 (not (allowedOf l kind)) 5 0 (λ _. refl) (λ _. refl))
 
-  nonce-no24 : No24 (nonceBefore (l .set) b m)
+  nonce-no24 : No24 (nonceBefore l b m)
   unfolding nonceBefore
   nonce-no24 =
       by-row No24 (ltb (length b) (leastOf (versionAt b))) 7 _ (λ _. refl) (λ _.
       by-row No24 (not (nearOf b m)) 8 _ (λ _. refl) (λ _.
-      by-row No24 (cipherRefused (l .set) b) 9 _ (λ _. refl) (λ _.
+      by-row No24 (cipherRefused l b) 9 _ (λ _. refl) (λ _.
       by-row No24 (beyondOf (l .set) (versionAt b)) 10 0 (λ _. refl) (λ _. refl))))
 
   handshake-no24 : No24 (handshakeRefusal (l .set) b)
@@ -91,7 +92,7 @@ module _ (l : Link) (len number kind : ℕ) (b : List ℕ) (m : Moment) where
   body-no24 : No24 (bodyBefore l kind b m)
   unfolding bodyBefore
   body-no24 =
-      by-row No24 (eqb kind 0x7acb87aa) (nonceBefore (l .set) b m) _ (λ _. nonce-no24) (λ _.
+      by-row No24 (eqb kind 0x7acb87aa) (nonceBefore l b m) _ (λ _. nonce-no24) (λ _.
       by-row No24 (eqb kind 0x7682eef5) (handshakeRefusal (l .set) b) _ (λ _. handshake-no24) (λ _.
       by-row No24 (eqb kind 0x5730a2df) (pingRefusal l b) _ (λ _. ping-no24) (λ _.
       by-row No24 (eqb kind 0x8430eaa7) (pongRefusal l b) 0 (λ _. pong-no24) (λ _. refl))))
@@ -140,16 +141,16 @@ refused-alike l k e = rw (closes-alike k e)
 -- ---- from the lowest version up
 
 -- FROM THE LOWEST UP: a Nonce whose version is not below the lowest is judged as before
-pub from-lowest-up : (set : Settings) (b : List ℕ) (m : Moment) → set .lowest ≤ versionAt b
-    → nonceRefusal set b m ≡ nonceBefore set b m
+pub from-lowest-up : (l : Link) (b : List ℕ) (m : Moment) → l .set .lowest ≤ versionAt b
+    → nonceRefusal l b m ≡ nonceBefore l b m
 unfolding nonceRefusal nonceBefore
-from-lowest-up set b m h = simp (le-ltb (versionAt b) (set .lowest) h)
+from-lowest-up l b m h = simp (le-ltb (versionAt b) (l .set .lowest) h)
 
 -- ---- with lowest version 0
 
 module _ (l : Link) (s : List ℕ) (m : Moment) (none : l .set .lowest ≡ 0) where
-  nonce-alike : (b : List ℕ) → nonceRefusal (l .set) b m ≡ nonceBefore (l .set) b m
-  nonce-alike b = from-lowest-up (l .set) b m (omega arith)
+  nonce-alike : (b : List ℕ) → nonceRefusal l b m ≡ nonceBefore l b m
+  nonce-alike b = from-lowest-up l b m (omega arith)
 
   body-alike : (kind : ℕ) (b : List ℕ) → bodyRefusal l kind b m ≡ bodyBefore l kind b m
   unfolding bodyRefusal bodyBefore
@@ -167,10 +168,10 @@ module _ (l : Link) (s : List ℕ) (m : Moment) (none : l .set .lowest ≡ 0) wh
   unfolding receiveOf receiveBefore
   as-base = by-look (lookOf l s) (look-known l m s)
 
--- set-up without a key refuses nothing
-pub set-up-as-base : (set : Settings) → set .lowest ≡ 0 → setUpOf set none ≡ Ready (freshOf set 0)
+-- set-up without a key refuses no link that is clear only
+pub set-up-as-base : (set : Settings) → set .cipher ≡ false → set .lowest ≡ 0 → setUpOf set none ≡ Ready (freshOf set 0)
 unfolding keyRefused keyIdOf
-set-up-as-base set zero = set-up-takes set none refl (omega arith)
+set-up-as-base set clear zero = set-up-takes set none clear (omega arith)
 
 -- and every receive call on a link that was set up with lowest version 0, with a key or without, is as before, after any
 -- calls

@@ -11,7 +11,6 @@ use lib.Dec.{ltb, eqb}
 use Rattle.wire.specs.Bytes.{within}
 use Rattle.wire.specs.Choice.{pick}
 use Rattle.link_state.specs.declared.Link.{Link}
-use Rattle.link_state.specs.declared.Settings.{Settings}
 use Rattle.link_state.specs.declared.Moment.{Moment}
 use Rattle.packet.specs.Allowed.{refuses}
 use Rattle.packet.specs.Body.{bodyOf}
@@ -28,9 +27,9 @@ use Rattle.link.specs.declared.Received.{Received}
 use Rattle.link_calls.proofs.Ways.{refuses-none, by-body}
 
 -- a Nonce that is not refused
-not-far : (set : Settings) (b : List ℕ) (m : Moment) → nonceRefusal set b m ≡ 0 → nearOf b m ≡ true
+not-far : (l : Link) (b : List ℕ) (m : Moment) → nonceRefusal l b m ≡ 0 → nearOf b m ≡ true
 unfolding nonceRefusal
-not-far set b m = go (ltb (length b) (leastOf (versionAt b))) (nearOf b m) _
+not-far l b m = go (ltb (length b) (leastOf (versionAt b))) (nearOf b m) _
   where
     go : (short near : Bool) (rest : ℕ) → pick short 7 (pick (not near) 8 rest) ≡ 0 → near ≡ true
     go short true rest e = refl
@@ -38,9 +37,9 @@ not-far set b m = go (ltb (length b) (leastOf (versionAt b))) (nearOf b m) _
     go false false rest e = absurd (omega arith)
 
 not-refused : (l : Link) (kind : ℕ) (b : List ℕ) (m : Moment) → refuses (bodyRefusal l kind b m) ≡ false
-    → eqb kind 0x7acb87aa ≡ true → nonceRefusal (l .set) b m ≡ 0
+    → eqb kind 0x7acb87aa ≡ true → nonceRefusal l b m ≡ 0
 unfolding bodyRefusal
-not-refused l kind b m e q = refuses-none (nonceRefusal (l .set) b m) (rw q at e)
+not-refused l kind b m e q = refuses-none (nonceRefusal l b m) (rw q at e)
 
 module _ (l : Link) (s : List ℕ) (m : Moment) (consumed at len : ℕ)
     (accepted : receiveOf l s m .answer ≡ Packet 0x7acb87aa consumed at len) where
@@ -49,12 +48,12 @@ module _ (l : Link) (s : List ℕ) (m : Moment) (consumed at len : ℕ)
   named = bodyOf s (receiveOf l s m .answer)
 
   -- what was accepted is not refused
-  taken : nonceRefusal (l .set) named m ≡ 0
+  taken : nonceRefusal l named m ≡ 0
   unfolding receiveOf bodyOf
-  taken = ap (λ (a : Arrival). nonceRefusal (l .set) (bodyOf s a) m) accepted ∙ go (lookOf l s) accepted
+  taken = ap (λ (a : Arrival). nonceRefusal l (bodyOf s a) m) accepted ∙ go (lookOf l s) accepted
     where
       Right : Received → Type 0
-      Right r = r .answer ≡ Packet 0x7acb87aa consumed at len → nonceRefusal (l .set) (within s at len) m ≡ 0
+      Right r = r .answer ≡ Packet 0x7acb87aa consumed at len → nonceRefusal l (within s at len) m ≡ 0
 
       go : (a : Arrival) → Right (receiveBy l s m a)
       go (Incomplete k) e = let z : _≡_ {A = ℕ} 0 1 = cc in absurd (omega arith)
@@ -64,15 +63,15 @@ module _ (l : Link) (s : List ℕ) (m : Moment) (consumed at len : ℕ)
           (λ ok e.
           let p : i ≡ at = cc in
           let q : n ≡ len = cc in
-          ap (λ (b : List ℕ). nonceRefusal (l .set) b m)
+          ap (λ (b : List ℕ). nonceRefusal l b m)
           (ap (λ (x : ℕ). within s x len) (sym p) ∙ ap (λ (x : ℕ). within s i x) (sym q))
           ∙ not-refused l kind (within s i n) m ok (eq-eqb kind 0x7acb87aa cc)) e
 
   -- AN ACCEPTED NONCE'S CLOCK DIFFERENCE IS HANDED BACK
   pub clock-handed-back : isNear (nonceClock named m) ≡ true
   unfolding nearOf
-  clock-handed-back = not-far (l .set) named m taken
+  clock-handed-back = not-far l named m taken
 
   -- AN ACCEPTED NONCE'S FIELDS ARE READ: what a derivation needs of it is never refused
   pub fields-handed-back : nonceOf named ≡ Fields (fieldsOf named)
-  fields-handed-back = accepted-read (l .set) named m taken
+  fields-handed-back = accepted-read l named m taken

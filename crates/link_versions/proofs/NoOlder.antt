@@ -21,7 +21,7 @@ use Rattle.packet.specs.declared.Arrival.{Arrival}
 use Rattle.packet.specs.declared.Arrival.the-variants.{Incomplete, Packet, Refused}
 use Rattle.opening.specs.Nonce.{nonceRefusal}
 use Rattle.link.specs.Look.{lookOf}
-use Rattle.link.specs.Next.{closedOf, versionAfter, afterOf}
+use Rattle.link_next.specs.Next.{closedOf, versionAfter, afterOf}
 use Rattle.link.specs.Receive.{bodyRefusal, receiveBy, receiveOf}
 use Rattle.link.specs.declared.Received.{Received}
 use Rattle.packet_out.specs.Size.{sizeOf}
@@ -39,7 +39,7 @@ use Rattle.link_versions.proofs.Accepted.{not-older, past-nonces}
 module _ (l : Link) (kind : ℕ) (b : List ℕ) (m : Moment) (e : refuses (bodyRefusal l kind b m) ≡ false) where
   nonce-after : eqb kind 0x7acb87aa ≡ true → l .set .lowest ≤ afterOf l kind b m .version
   unfolding bodyRefusal afterOf versionAfter
-  nonce-after q = rw q (not-older (l .set) b m (refuses-none (nonceRefusal (l .set) b m) (rw q at e)))
+  nonce-after q = rw q (not-older l b m (refuses-none (nonceRefusal l b m) (rw q at e)))
 
   other-after : eqb kind 0x7acb87aa ≡ false → afterOf l kind b m .version ≡ l .version
   unfolding afterOf versionAfter
@@ -114,8 +114,8 @@ module _ (set : Settings) (t : ℕ) (early : t ≤ 2)
     holds-call : (c : Call) → Holds set t (afterCall l c)
     holds-call (receives s m) =
         receive-ways (Holds set t) l s m h holds-closed (λ turn kind b may ok. holds-after kind b m may ok)
-    holds-call (sends w p random m room) =
-        send-ways (λ (x : Step). Holds set t (x .link)) l w p random m room (λ k. h)
+    holds-call (sends w p drawn m room) =
+        send-ways (λ (x : Step). Holds set t (x .link)) l w p drawn m room (λ k. h)
         (λ id len turn may. holds-sent (typeOf w) id (sizeOf l len) turn)
     holds-call (flushes room) =
         flush-ways (λ (x : Step). Holds set t (x .link)) l room (λ k. h) (λ fits. holds-flushed (wordsDue l * 4))

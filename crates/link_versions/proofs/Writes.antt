@@ -25,7 +25,8 @@ use Rattle.packet_out.specs.declared.Sent.the-variants.{Written}
 use Rattle.packet_out.proofs.PacketLaws.{length-head}
 use Rattle.send_rules.specs.Control.{controlAnswer}
 use Rattle.nonce_out.proofs.SentLaws.{small-version, nonce-answered, nonce-left}
-use Rattle.nonce_out.specs.Nonce.{versionOf, nonceHead, pointOf, nonceBody, nonceStep}
+use Rattle.nonce_out.specs.declared.Drawn.{Drawn}
+use Rattle.nonce_out.specs.Nonce.{versionOf, nonceHead, nonceBody, ourNonce, nonceStep}
 use Rattle.send.specs.Send.{sendOf, sendBuffer}
 use Rattle.send.specs.declared.ToSend.the-variants.{Nonce}
 use Rattle.link_calls.specs.Calls.{Call, afterCalls}
@@ -58,19 +59,19 @@ module _ (set : Settings) (k : Link) (h : Holds set (heardFrom (set .server)) k)
 
 -- ---- where it stands: byte 5 of the body, which is byte 17 of the packet
 
-module _ (k : Link) (version time : ℕ) (random rest : List ℕ) where
+module _ (k : Link) (keyid encryption version time : ℕ) (random point rest : List ℕ) where
   abbrev kind : ℕ
   kind = 0x7acb87aa
 
   abbrev body : List ℕ
-  body = nonceBody version time random
+  body = nonceBody keyid encryption version time random point
 
   byte-17 : version < 256 → le (part (packetOf k kind body ++ rest) 17 1) ≡ version
   unfolding packetOf frontOf nonceBody nonceHead
   byte-17 small =
-      let H : List ℕ = headOf (length body + 16) (k .sends) kind ++ (bytes 4 0 ++ bytes 1 0) in
+      let H : List ℕ = headOf (length body + 16) (k .sends) kind ++ (bytes 4 keyid ++ bytes 1 encryption) in
       let T : List ℕ = (bytes 2 0 ++ bytes 4 time) ++
-      ((random ++ pointOf) ++ ((bytes 4 (sumOf k (frontOf k kind body)) ++ replicate (tailOf k
+      ((random ++ point) ++ ((bytes 4 (sumOf k (frontOf k kind body)) ++ replicate (tailOf k
       (length body + 16)) 0) ++ rest)) in
       let e : length H ≡ 17 = simp (length-append, length-head, length-bytes) in
       let q : packetOf k kind body ++ rest ≡ H ++ (bytes 1 version ++ T) = simp append-assoc in
@@ -79,33 +80,30 @@ module _ (k : Link) (version time : ℕ) (random rest : List ℕ) where
 
 -- ---- the send call
 
-module _ (k : Link) (p random b : List ℕ) (m : Moment) (n : ℕ)
-    (e : sendOf k Nonce p random m (length b) .answer ≡ Written n) where
-  abbrev ours : List ℕ
-  ours = nonceBody (versionOf k) (m .time) random
-
-  step : nonceStep k random m (length b) .answer ≡ Written n
+module _ (k : Link) (p b : List ℕ) (drawn : Drawn) (m : Moment) (n : ℕ)
+    (e : sendOf k Nonce p drawn m (length b) .answer ≡ Written n) where
+  step : nonceStep k drawn m (length b) .answer ≡ Written n
   unfolding sendOf
   step = e
 
   due : maySend (k .set .server) (k .stage) ≡ true
   unfolding controlAnswer
-  due = at-turn k 0x7acb87aa false _ n (nonce-answered k random b m n step)
+  due = at-turn k 0x7acb87aa false _ n (nonce-answered k drawn b m n step)
 
-  reads-version : le (part (sendBuffer k Nonce p random m b) 17 1) ≡ versionOf k
-  unfolding sendBuffer
+  reads-version : le (part (sendBuffer k Nonce p drawn m b) 17 1) ≡ versionOf k
+  unfolding sendBuffer ourNonce
   reads-version =
-      ap (λ (t : List ℕ). le (part t 17 1)) (nonce-left k random b m n step)
-      ∙ byte-17 k (versionOf k) (m .time) random _ (small-version k)
+      ap (λ (t : List ℕ). le (part t 17 1)) (nonce-left k drawn b m n step)
+      ∙ byte-17 k _ _ (versionOf k) (m .time) (drawn .random) _ _ (small-version k)
 
 -- NO OLDER IS WRITTEN: a link that was set up, after any calls, leaves no Nonce in a buffer whose version, which is
 -- byte 17, is below its lowest; at either side
 pub writes-no-older : (set : Settings) (key : Option (List ℕ)) (l : Link) → setUpOf set key ≡ Ready l
-    → (cs : List Call) (p random b : List ℕ) (m : Moment) (n : ℕ)
-    → sendOf (afterCalls l cs) Nonce p random m (length b) .answer ≡ Written n
-    → set .lowest ≤ le (part (sendBuffer (afterCalls l cs) Nonce p random m b) 17 1)
-writes-no-older set key l ready cs p random b m n e =
+    → (cs : List Call) (p b : List ℕ) (drawn : Drawn) (m : Moment) (n : ℕ)
+    → sendOf (afterCalls l cs) Nonce p drawn m (length b) .answer ≡ Written n
+    → set .lowest ≤ le (part (sendBuffer (afterCalls l cs) Nonce p drawn m b) 17 1)
+writes-no-older set key l ready cs p b drawn m n e =
     let k : Link = afterCalls l cs in
-    rw (reads-version k p random b m n e)
+    rw (reads-version k p b drawn m n e)
     (version-written set k (holds-from-set-up set key l ready cs) (set-up-took set key l ready .1 .0)
-    (due k p random b m n e))
+    (due k p b drawn m n e))

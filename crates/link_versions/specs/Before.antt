@@ -1,5 +1,5 @@
 -- Receive without lowest versions: document 01's own rules, with what later requests than A11 have added (document 02,
--- A7: 25 and 26 close a link). Assumes nothing.
+-- A7: 25 and 26 close a link; A9: 9 is by the settings and KeyID). Assumes nothing.
 use Prim.Native.Nat.{ℕ}
 use mathlib.Core.Bool.{Bool, true, not, _&&_}
 use mathlib.Core.List.{List, [], _∷_}
@@ -8,28 +8,28 @@ use lib.Dec.{ltb, leb, eqb}
 use Rattle.wire.specs.Bytes.{within}
 use Rattle.wire.specs.Choice.{pick, first}
 use Rattle.link_state.specs.declared.Link.{Link}
-use Rattle.link_state.specs.declared.Settings.{Settings}
 use Rattle.link_state.specs.declared.Moment.{Moment}
 use Rattle.packet.specs.Allowed.{refuses}
 use Rattle.packet.specs.declared.Arrival.{Arrival}
 use Rattle.packet.specs.declared.Arrival.the-variants.{Incomplete, Packet, Refused}
 use Rattle.opening.specs.Clock.{nearOf}
-use Rattle.opening.specs.Nonce.{leastOf, versionAt, cipherRefused, beyondOf}
+use Rattle.link_cipher.specs.Chosen.{cipherRefused}
+use Rattle.opening.specs.Nonce.{leastOf, versionAt, beyondOf}
 use Rattle.opening.specs.Handshake.{handshakeRefusal}
-use Rattle.link.specs.KeepAlive.{pingRefusal, pongRefusal}
+use Rattle.link_next.specs.KeepAlive.{pingRefusal, pongRefusal}
 use Rattle.link.specs.Look.{lookOf}
-use Rattle.link.specs.Next.{closedOf, afterOf}
+use Rattle.link_next.specs.Next.{closedOf, afterOf}
 use Rattle.link.specs.Receive.{gives}
 use Rattle.link.specs.declared.Received.{Received}
 
 -- "opening body short; clocks; encryption; beyond our offer": 7, 8, 9, 10
-unfoldable pub nonceBefore : Settings → List ℕ → Moment → ℕ
-nonceBefore set b m =
+unfoldable pub nonceBefore : Link → List ℕ → Moment → ℕ
+nonceBefore l b m =
     first (
     (ltb (length b) (leastOf (versionAt b)), 7) ∷
     (not (nearOf b m), 8) ∷
-    (cipherRefused set b, 9) ∷
-    (beyondOf set (versionAt b), 10) ∷
+    (cipherRefused l b, 9) ∷
+    (beyondOf (l .set) (versionAt b), 10) ∷
     []
     ) 0
 
@@ -37,7 +37,7 @@ nonceBefore set b m =
 unfoldable pub bodyBefore : Link → ℕ → List ℕ → Moment → ℕ
 bodyBefore l kind b m =
     first (
-    (eqb kind 0x7acb87aa, nonceBefore (l .set) b m) ∷
+    (eqb kind 0x7acb87aa, nonceBefore l b m) ∷
     (eqb kind 0x7682eef5, handshakeRefusal (l .set) b) ∷
     (eqb kind 0x5730a2df, pingRefusal l b) ∷
     (eqb kind 0x8430eaa7, pongRefusal l b) ∷

@@ -9,10 +9,10 @@ use lib.ListN.{length}
 use lib.Dec.{ltb}
 use Rattle.wire.specs.Bytes.{within}
 use Rattle.wire.specs.Choice.{pick}
-use Rattle.link_state.specs.declared.Settings.{Settings}
+use Rattle.link_state.specs.declared.Link.{Link}
 use Rattle.link_state.specs.declared.Moment.{Moment}
 use Rattle.opening.specs.Nonce.{leastOf, versionAt, nonceRefusal}
-use Rattle.nonce_out.specs.Nonce.{pointOf, nonceBody}
+use Rattle.nonce_out.specs.Nonce.{nonceBody}
 use Rattle.nonce_out.proofs.BodyLaws.{length-nonce, nonce-version, nonce-time, nonce-random, nonce-point}
 use Rattle.nonce_in.specs.declared.NonceFields.{NonceFields}
 use Rattle.nonce_in.specs.declared.NonceRead.the-variants.{Fields, Refused}
@@ -24,10 +24,10 @@ unfolding nonceOf
 long-read b h = rw (le-ltb (length b) (leastOf (versionAt b)) h)
 
 -- ACCEPTED, THEN READ: no Nonce that a receive call accepts is refused here
-pub accepted-read : (set : Settings) (b : List ℕ) (m : Moment) → nonceRefusal set b m ≡ 0
+pub accepted-read : (l : Link) (b : List ℕ) (m : Moment) → nonceRefusal l b m ≡ 0
     → nonceOf b ≡ Fields (fieldsOf b)
 unfolding nonceRefusal
-accepted-read set b m e = go (ltb (length b) (leastOf (versionAt b))) _ refl e
+accepted-read l b m e = go (ltb (length b) (leastOf (versionAt b))) _ refl e
   where
     go : (x : Bool) (n : ℕ) → ltb (length b) (leastOf (versionAt b)) ≡ x → pick x 7 n ≡ 0
         → nonceOf b ≡ Fields (fieldsOf b)
@@ -67,25 +67,29 @@ most version = go (ltb version 2)
     go false = omega arith
 
 -- READ BACK: of a Nonce as we write it, the version, the time, the random bytes and, from version 2 on, the point
-module _ (version time : ℕ) (random : List ℕ) (v : version < 256) (t : time < 2 ^ 32) (n : length random ≡ 16) where
+module _ (k e version time : ℕ) (random point : List ℕ) (v : version < 256) (t : time < 2 ^ 32)
+    (n : length random ≡ 16) (p : length point ≡ 32) where
   abbrev body : List ℕ
-  body = nonceBody version time random
+  body = nonceBody k e version time random point
 
   pub nonce-back : nonceOf body
       ≡ Fields (record {
         version = version;
         time = time;
         random = record { at = 12; len = 16 };
-        point = pointPlace
-            version;
+        point = pointPlace version;
       })
   unfolding fieldsOf
   nonce-back =
-      long-read body (rw (nonce-version version time random v, length-nonce version time random n) (most version))
-      ∙ rw (nonce-version version time random v, nonce-time version time random t)
+      long-read body
+      (rw (nonce-version k e version time random point v, length-nonce k e version time random point n p)
+      (most version))
+      ∙ rw (nonce-version k e version time random point v, nonce-time k e version time random point t)
 
   pub random-back : within body 12 16 ≡ random
-  random-back = rw (length-nonce version time random n) (nonce-random version time random n)
+  random-back =
+      rw (length-nonce k e version time random point n p) (nonce-random k e version time random point n)
 
-  pub point-back : within body 28 32 ≡ pointOf
-  point-back = rw (length-nonce version time random n) (nonce-point version time random n)
+  pub point-back : within body 28 32 ≡ point
+  point-back =
+      rw (length-nonce k e version time random point n p) (nonce-point k e version time random point n p)

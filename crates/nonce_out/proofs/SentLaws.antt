@@ -16,7 +16,8 @@ use Rattle.packet_out.specs.declared.Sent.the-variants.{Written}
 use Rattle.packet_out.proofs.PacketLaws.{length-packet}
 use Rattle.send_rules.specs.Control.{controlAnswer, controlStep, bufferBy, controlBuffer}
 use Rattle.send_rules.proofs.ControlLaws.{step-answer, fits}
-use Rattle.nonce_out.specs.Nonce.{versionOf, nonceBody, nonceStep, nonceBuffer}
+use Rattle.nonce_out.specs.declared.Drawn.{Drawn}
+use Rattle.nonce_out.specs.Nonce.{versionOf, ourNonce, nonceStep, nonceBuffer}
 
 -- the version that we write is a byte
 pub small-version : (l : Link) → versionOf l < 256
@@ -28,17 +29,17 @@ small-version l = go (l .set .server) (ltb (l .version) 2) refl
     go true false q = omega arith
     go false x q = omega arith
 
-module _ (l : Link) (random b : List ℕ) (m : Moment) (n : ℕ) (e : nonceStep l random m (length b) .answer
+module _ (l : Link) (drawn : Drawn) (b : List ℕ) (m : Moment) (n : ℕ) (e : nonceStep l drawn m (length b) .answer
     ≡ Written n) where
   abbrev ours : List ℕ
-  ours = nonceBody (versionOf l) (m .time) random
+  ours = ourNonce l drawn m
 
   pub nonce-answered : controlAnswer l 0x7acb87aa false (length ours) (length b) ≡ Written n
   unfolding nonceStep controlStep
   nonce-answered = sym (step-answer l 0x7acb87aa 0 (controlAnswer l 0x7acb87aa false (length ours) (length b))) ∙ e
 
   -- the packet at the buffer's front, and what stood behind it
-  pub nonce-left : nonceBuffer l random m b ≡ packetOf l 0x7acb87aa ours ++ drop (length (packetOf l 0x7acb87aa ours)) b
+  pub nonce-left : nonceBuffer l drawn m b ≡ packetOf l 0x7acb87aa ours ++ drop (length (packetOf l 0x7acb87aa ours)) b
   unfolding nonceBuffer controlBuffer
   nonce-left =
       let room = fits l 0x7acb87aa false (length ours) ours 0 b refl n nonce-answered .1 in

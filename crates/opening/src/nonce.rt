@@ -1,5 +1,6 @@
 // The other side's Nonce.
 use crate::times::near;
+use link_state::Link;
 use link_state::Moment;
 use link_state::OUR_VERSION;
 use link_state::Settings;
@@ -10,25 +11,13 @@ use refusal::OPENING_SHORT;
 use refusal::VERSION_TOO_OLD;
 use wire::u8_at;
 ghost use mathlib.Core.Path.{_≡_};
-ghost use Rattle.opening.specs.Nonce.{leastOf, cipherRefused, beyondOf, nonceRefusal};
+ghost use Rattle.opening.specs.Nonce.{leastOf, beyondOf, nonceRefusal};
 
 // How long a Nonce's body of this version is at least.
 pub fn least(version: u8) -> usize
     ensures { λ r. ⌜ r ≡ leastOf version ⌝ }
 {
     if version < 2 { 28 } else { 60 }
-}
-
-// Whether the encryption that a Nonce names is refused.
-fn cipher_refused(set: Settings, b: &[u8]) -> bool
-    ensures { λ r. ⌜ r ≡ cipherRefused set (now (b .entry)) ⌝ }
-{
-    let encryption = u8_at(b, 4);
-    if set.server {
-        encryption == 1
-    } else {
-        encryption != 0
-    }
 }
 
 // Whether a version is above a client's own.
@@ -43,9 +32,10 @@ fn beyond(set: Settings, version: u8) -> bool
 }
 
 // A refusal's number, or 0.
-pub fn nonce_refusal(set: Settings, b: &[u8], moment: Moment) -> u8
-    ensures { λ r. ⌜ r ≡ nonceRefusal set (now (b .entry)) moment ⌝ }
+pub fn nonce_refusal(link: Link, b: &[u8], moment: Moment) -> u8
+    ensures { λ r. ⌜ r ≡ nonceRefusal link (now (b .entry)) moment ⌝ }
 {
+    let set = link.set;
     let version = u8_at(b, 5);
     if b.len() < least(version) {
         return OPENING_SHORT;
@@ -56,7 +46,7 @@ pub fn nonce_refusal(set: Settings, b: &[u8], moment: Moment) -> u8
     if version < set.lowest {
         return VERSION_TOO_OLD;
     }
-    if cipher_refused(set, b) {
+    if link_cipher::refused(link, b) {
         return ENCRYPTION;
     }
     if beyond(set, version) {

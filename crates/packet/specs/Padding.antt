@@ -1,15 +1,15 @@
--- The padded profile, as either direction has it (document 02, A7). Assumes nothing.
+-- The padded profile, as either direction has it (document 02, A7 and A9). Assumes nothing.
 use Prim.Native.Nat.{ℕ, zero, suc, _+_, _-_, _/_, _%_}
-use mathlib.Core.Bool.{Bool, _&&_}
+use mathlib.Core.Bool.{Bool, _&&_, _||_}
 use mathlib.Core.List.{List, [], _++_}
 use lib.Dec.{leb}
 use Rattle.wire.specs.Bytes.{bytes}
 use Rattle.wire.specs.Choice.{pick}
 use Rattle.link_state.specs.declared.Link.{Link}
 
--- "A profile, set by hand"
+-- "A profile, set by hand" (A7); "On ciphered links A7's profile holds" (A9)
 unfoldable pub paddedOf : Link → Bool
-paddedOf l = l .set .padded
+paddedOf l = l .set .padded || l .ciphered
 
 -- "From the Handshake on": the third packet of the opening is the first that is padded, and so is all that follows it
 unfoldable pub padsOf : Link → Bool

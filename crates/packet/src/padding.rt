@@ -7,7 +7,10 @@ ghost use Rattle.packet.specs.Padding.{paddedOf, padsOf, tailOf, wordsAl
 pub fn padded(link: Link) -> bool
     ensures { λ r. ⌜ r ≡ paddedOf link ⌝ }
 {
-    link.set.padded
+    if link.set.padded {
+        return true;
+    }
+    link.ciphered
 }
 
 // Whether what goes over the link now is padded.

@@ -14,8 +14,8 @@ use Rattle.packet.specs.declared.Arrival.the-variants.{Incomplete, Packet, Refu
 use Rattle.packet.specs.Sum.{sumOf}
 use Rattle.packet.specs.Allowed.{refuses}
 use Rattle.packet.specs.Padding.{tailOf}
-use Rattle.packet_in.specs.Head.{lengthRefusal, headRefusal}
-use Rattle.packet_in.specs.Words.{wordsOf}
+use Rattle.packet_head.specs.Head.{lengthRefusal, headRefusal}
+use Rattle.packet_head.specs.Words.{wordsOf}
 
 -- "Bytes 0-3 length", of a packet at the front of s
 abbrev pub lengthAt : List ℕ → ℕ

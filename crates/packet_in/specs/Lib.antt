@@ -1,4 +1,2 @@
 -- Definitions of crate packet_in: framing.
-pub mod Head
-pub mod Words
 pub mod Frame

@@ -1,12 +1,12 @@
 // A packet at the front of the bytes: how many bytes it still lacks, why it is refused, or where its body is. On a
 // padded link words may stand before it, and zeros follow it.
-use crate::head::head_refusal;
-use crate::head::length_refusal;
-use crate::words::words;
 use link_state::Link;
 use packet::Arrival;
 use packet::checksum_of;
 use packet::tail;
+use packet_head::head_refusal;
+use packet_head::length_refusal;
+use packet_head::words::words;
 use refusal::CHECKSUM;
 use refusal::FOURTH_WORD;
 use refusal::PADDING_NOT_ZERO;

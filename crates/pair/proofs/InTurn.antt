@@ -13,7 +13,6 @@ use Rattle.wire.specs.Choice.{pick}
 use Rattle.wire.proofs.ByteLaws.{length-bytes}
 use Rattle.link_state.specs.declared.Link.{Link}
 use Rattle.link_state.specs.declared.Moment.{Moment}
-use Rattle.link_state.specs.SetUp.{freshOf}
 use Rattle.link_state.specs.Turn.{maySend}
 use Rattle.packet.specs.Allowed.{allowedOf, refuses}
 use Rattle.packet.specs.declared.Arrival.{Arrival}
@@ -21,8 +20,8 @@ use Rattle.packet.specs.declared.Arrival.the-variants.{Packet}
 use Rattle.packet_out.specs.Size.{sizeOf, fitsOf}
 use Rattle.packet_out.specs.declared.Sent.{Sent}
 use Rattle.packet_out.specs.declared.Sent.the-variants.{Written, Refused}
-use Rattle.link.specs.KeepAlive.{pingRefusal, pongRefusal, awaitsAfter, owesAfter, owedAfter}
-use Rattle.link.specs.Next.{afterOf}
+use Rattle.link_next.specs.KeepAlive.{pingRefusal, pongRefusal, awaitsAfter, owesAfter, owedAfter}
+use Rattle.link_next.specs.Next.{afterOf}
 use Rattle.link.specs.Receive.{bodyRefusal, gives, receiveOf}
 use Rattle.link.specs.declared.Received.{Received}
 use Rattle.send_rules.specs.Sent.{awaitsSent, awaitedSent, owesSent, sentOf}
@@ -30,7 +29,7 @@ use Rattle.send_rules.specs.Control.{sendRefusal, controlAnswer, stepBy, contro
 use Rattle.send_rules.specs.declared.Step.{Step}
 use Rattle.send_rules.proofs.ControlLaws.{step-answer}
 use Rattle.keep_alive_out.specs.KeepAlive.{pingStep, pingBuffer, pongStep, pongBuffer}
-use Rattle.pair.specs.Opens.{during, Caller, Able, Opened, opens}
+use Rattle.pair.specs.Opens.{Choices, madeOf, bothOf, Meet, openOf, Caller, Able, Opened, opens}
 use Rattle.pair.specs.KeepAlive.{exchangeOf, KeptAlive, Owing, Alive, Call, AllFit, stepOf, peerBy, heardBy, meantBy, along}
 use Rattle.pair.proofs.SumLaws.{small-bytes}
 use Rattle.pair.proofs.SentReceived.{sent-received}
@@ -293,24 +292,23 @@ module _ (l k : Link) (a : Alive l k) (id : ℕ) (fits : id < 2 ^ 64) (rest : l 
 
 -- ---- from the opening on
 
-module _ (oc os pad : Bool) (lc ls kc ks : ℕ) (low-c : lc ≤ 2) (low-s : ls ≤ 2) (c s : Caller)
-    (b1 b2 b3 b4 : List ℕ) (m3 m4 : Moment) (g : Able c s b1 b2 b3 b4) where
+module _ (x y : Choices) (meet : Meet x y) (c s : Caller) (b1 b2 b3 b4 : List ℕ) (m3 m4 : Moment) (g : Able c s b1 b2 b3 b4) where
   -- the exchange of a fresh client and a fresh server
   abbrev o : Opened
-  o = opens (freshOf (record { server = false; allows = oc; lowest = lc; padded = pad }) kc) (freshOf (record { server = true; allows = os; lowest = ls; padded = pad }) ks) c s b1 b2 b3 b4 m3 m4
+  o = opens (madeOf false x) (madeOf true y) c s b1 b2 b3 b4 m3 m4
 
-  abbrev client-is : o .client ≡ during (record { server = false; allows = oc; lowest = lc; padded = pad }) kc (oc && os) 2 4 (pick pad 3 0) 0 0
-  client-is = opened oc os pad lc ls kc ks low-c low-s c s b1 b2 b3 b4 m3 m4 g .0
+  abbrev client-is : o .client ≡ openOf false x (bothOf x y) (x .allows && y .allows)
+  client-is = opened x y meet c s b1 b2 b3 b4 m3 m4 g .0
 
-  abbrev server-is : o .server ≡ during (record { server = true; allows = os; lowest = ls; padded = pad }) ks (oc && os) 2 4 (pick pad 3 0) 0 0
-  server-is = opened oc os pad lc ls kc ks low-c low-s c s b1 b2 b3 b4 m3 m4 g .1
+  abbrev server-is : o .server ≡ openOf true y (bothOf x y) (x .allows && y .allows)
+  server-is = opened x y meet c s b1 b2 b3 b4 m3 m4 g .1
 
   -- two fresh links that open are alive, and neither awaits a Pong
   pub alive-after-opening : Alive (o .client) (o .server) × ((o .client .awaits ≡ false) × (o .server .awaits ≡ false))
   alive-after-opening = (
     record {
-      there = each-awaits oc os pad lc ls kc ks low-c low-s c s b1 b2 b3 b4 m3 m4 g .1;
-      back = each-awaits oc os pad lc ls kc ks low-c low-s c s b1 b2 b3 b4 m3 m4 g .0;
+      there = each-awaits x y meet c s b1 b2 b3 b4 m3 m4 g .1;
+      back = each-awaits x y meet c s b1 b2 b3 b4 m3 m4 g .0;
       open-l = rw client-is (lit≤ tt);
       open-k = rw server-is (lit≤ tt);
       number-l = rw client-is (lit< tt);

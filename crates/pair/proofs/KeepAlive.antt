@@ -13,12 +13,12 @@ use Rattle.wire.proofs.ByteLaws.{length-bytes, le-bytes}
 use Rattle.link_state.specs.declared.Link.{Link}
 use Rattle.link_state.specs.declared.Moment.{Moment}
 use Rattle.packet.specs.Allowed.{allowedOf}
-use Rattle.packet_in.specs.Head.{lengthRefusal}
+use Rattle.packet_head.specs.Head.{lengthRefusal}
 use Rattle.packet.specs.declared.Arrival.the-variants.{Packet}
 use Rattle.packet_out.specs.Size.{sizeOf}
 use Rattle.packet_out.specs.Packet.{packetOf}
-use Rattle.link.specs.KeepAlive.{pingRefusal, pongRefusal, awaitsAfter, owesAfter, owedAfter}
-use Rattle.link.specs.Next.{afterOf}
+use Rattle.link_next.specs.KeepAlive.{pingRefusal, pongRefusal, awaitsAfter, owesAfter, owedAfter}
+use Rattle.link_next.specs.Next.{afterOf}
 use Rattle.link.specs.Receive.{bodyRefusal, gives, receiveOf}
 use Rattle.pair.specs.Awaits.{Awaits}
 use Rattle.pair.proofs.SumLaws.{small-bytes}

@@ -22,8 +22,8 @@ use Rattle.packet_out.specs.Size.{sizeOf, fitsOf}
 use Rattle.packet_out.specs.declared.Sent.the-variants.{Written}
 use Rattle.packet_out.proofs.PacketLaws.{length-packet}
 use Rattle.link.specs.Look.{turnRefusal}
-use Rattle.link.specs.KeepAlive.{awaitsAfter, owesAfter}
-use Rattle.link.specs.Next.{afterOf}
+use Rattle.link_next.specs.KeepAlive.{awaitsAfter, owesAfter}
+use Rattle.link_next.specs.Next.{afterOf}
 use Rattle.link.specs.Receive.{gives, receiveOf}
 use Rattle.send_rules.specs.Sent.{awaitsSent, awaitedSent, owesSent, sentOf}
 use Rattle.send_rules.specs.Control.{sendRefusal, controlAnswer, stepBy, bufferBy, controlStep, controlBuffer}

@@ -7,6 +7,8 @@ pub mod StepAlike
 pub mod KeepAlive
 pub mod KeptAlive
 pub mod Pids
+pub mod NoncePasses
 pub mod Opening
+pub mod SetUps
 pub mod InTurn
 pub mod NonceBack

@@ -1,118 +1,56 @@
 -- Two links open against each other. Assumes nothing.
-use borrow.Author.Tests.{le-ltb, le-leb}
+use borrow.Author.Tests.{le-ltb}
 use native.Mathlib.Omega.{arith}
-use mathlib.Core.Path.{_≡_, refl, ap, _∙_}
-use mathlib.Core.Bool.{Bool, true, false, not, _&&_, cond}
+use mathlib.Core.Path.{_≡_, refl, ap, sym, _∙_}
+use mathlib.Core.Bool.{Bool, true, false, not, _&&_, _||_}
 use mathlib.Core.List.{List, [], _∷_, _++_}
-use Prim.Native.Nat.{ℕ, zero, suc, _+_, _-_, _/_, _%_, _≤_, _<_, _^_}
-use lib.IntN.{pos, negsuc}
+use Prim.Native.Nat.{ℕ, _+_, _/_, _%_, _≤_, _<_, _^_}
 use lib.ListN.{length, replicate}
-use lib.Dec.{ltb, eqb, lit<}
-use Rattle.wire.specs.Bytes.{le, part, bytes}
+use lib.Dec.{eqb, lit<}
+use Rattle.wire.specs.Bytes.{le, part}
 use Rattle.wire.specs.Choice.{pick}
 use Rattle.wire.proofs.ByteLaws.{Small}
 use Rattle.link_state.specs.declared.Link.{Link}
 use Rattle.link_state.specs.declared.Settings.{Settings}
 use Rattle.link_state.specs.declared.Moment.{Moment}
-use Rattle.link_state.specs.declared.SetUp.the-variants.{Ready}
-use Rattle.link_state.specs.SetUp.{freshOf, keyRefused, keyIdOf, setUpOf}
-use mathlib.Core.Option.{Option}
-use Rattle.link_state.proofs.SetUpLaws.{set-up-takes}
+use Rattle.link_state.specs.SetUp.{freshOf}
+use Rattle.link_cipher.specs.Offered.{offerOf, encryptionOf, offersOrTakes, sentKeyId, sentPoint}
 use Rattle.link_state.specs.Turn.{maySend, stageAfter}
 use Rattle.packet.specs.Sum.{castagnoliOf}
 use Rattle.packet.specs.Allowed.{allowedOf}
 use Rattle.packet.specs.Padding.{paddedOf, padsOf, tailOf, phaseAfter}
-use Rattle.packet_in.specs.Head.{lengthRefusal}
+use Rattle.packet_head.specs.Head.{lengthRefusal}
 use Rattle.packet.specs.declared.Arrival.the-variants.{Packet}
 use Rattle.packet_out.specs.Size.{sizeOf, fitsOf}
 use Rattle.packet_out.specs.declared.Sent.the-variants.{Written}
-use Rattle.opening.specs.Clock.{nonceClock, clockOf, within30, isNear, nearOf}
-use Rattle.opening.specs.Nonce.{leastOf, cipherRefused, beyondOf, nonceRefusal}
+use Rattle.opening.specs.Nonce.{nonceRefusal}
 use Rattle.opening.specs.Handshake.{flagOf, handshakeRefusal}
 use Rattle.link.specs.Look.{turnRefusal}
-use Rattle.link.specs.KeepAlive.{awaitsAfter, owesAfter, owedAfter}
-use Rattle.link.specs.Next.{agreedAfter, versionAfter, afterOf}
+use Rattle.link_next.specs.KeepAlive.{awaitsAfter, owesAfter, owedAfter}
+use Rattle.link_next.specs.Next.{agreedAfter, versionAfter, cipheredAfter, afterOf}
 use Rattle.link.specs.Receive.{bodyRefusal, gives, receiveOf}
 use Rattle.send_rules.specs.Control.{sendRefusal, controlAnswer, stepBy, controlStep, controlBuffer}
-use Rattle.nonce_out.specs.Nonce.{versionOf, nonceHead, pointOf, nonceBody, nonceStep, nonceBuffer}
+use Rattle.nonce_out.specs.Nonce.{versionOf, nonceBody, ourNonce, nonceStep, nonceBuffer}
 use Rattle.handshake_out.specs.Handshake.{flagsOf, pidBytes, handshakeBody, handshakeStep, handshakeBuffer}
 use Rattle.send_rules.specs.Sent.{awaitsSent, awaitedSent, owesSent, sentOf}
 use Rattle.opening.specs.declared.NetPid.{NetPid}
-use Rattle.nonce_out.proofs.BodyLaws.{length-nonce, nonce-version, nonce-cipher, nonce-time}
+use Rattle.nonce_out.proofs.BodyLaws.{length-nonce, nonce-version, nonce-cipher}
 use Rattle.handshake_out.proofs.BodyLaws.{length-handshake}
 use Rattle.pair.specs.Awaits.{Awaits}
-use Rattle.pair.specs.Opens.{during, Caller, Able, Opened, opens}
+use Rattle.pair.specs.Opens.{Choices, settingsOf, madeOf, bothOf, Meet, during, openOf, Caller, Able, Opened, opens}
 use Rattle.pair.proofs.Pids.{small-handshake}
-use Rattle.pair.proofs.SumLaws.{small-append, small-bytes}
+use Rattle.pair.proofs.NoncePasses.{near, point-length, point-small, pick-small, small-nonce, nine, nonce-passes}
+use Rattle.pair.proofs.NoncePasses.{offer-small, answer-small, offer-chosen, answer-chosen, offer-taken, answer-taken}
+use Rattle.pair.proofs.NoncePasses.{offer-key, answer-key}
 use Rattle.pair.proofs.RoundTrip.{field}
 use Rattle.pair.proofs.SentReceived.{sent-received}
 
--- ---- clocks that are at most 30 apart are near
-
-near : (a b : ℕ) → a ≤ b + 30 → b ≤ a + 30 → isNear (clockOf a b) ≡ true
-unfolding clockOf
-near a zero h g = simp (le-leb (a + 0) 30 (omega arith))
-near a (suc k) h g = by-test (ltb a (suc k))
-  where
-    by-test : (t : Bool) → isNear (within30 (cond t (negsuc (suc k - suc a)) (pos (a - suc k)))) ≡ true
-    by-test true = simp (le-leb (suc k - suc a) 29 (omega arith))
-    by-test false = simp (le-leb (a - suc k) 30 (omega arith))
-
--- ---- the bodies, as the peer reads them
-
-pub small-zeros : (n : ℕ) → Small (replicate n 0)
-small-zeros zero i = lit< tt
-small-zeros (suc n) zero = lit< tt
-small-zeros (suc n) (suc i) = small-zeros n i
-
-module _ (version time : ℕ) (random : List ℕ) where
-  pub small-nonce : Small random → Small (nonceBody version time random)
-  unfolding nonceBody nonceHead pointOf
-  small-nonce g =
-      let t : List ℕ = bytes 2 0 ++ bytes 4 time in
-      small-append (bytes 4 0 ++ (bytes 1 0 ++ (bytes 1 version ++ t))) (random ++ replicate 32 0)
-      (small-append (bytes 4 0) (bytes 1 0 ++ (bytes 1 version ++ t)) (small-bytes 4 0)
-      (small-append (bytes 1 0) (bytes 1 version ++ t) (small-bytes 1 0)
-      (small-append (bytes 1 version) t (small-bytes 1 version)
-      (small-append (bytes 2 0) (bytes 4 time) (small-bytes 2 0) (small-bytes 4 time)))))
-      (small-append random (replicate 32 0) g (small-zeros 32))
-
-  -- a Nonce of ours passes, where the clocks are near
-  nonce-passes : (set : Settings) (m : Moment) → length random ≡ 16 → version ≤ 2 → set .lowest ≤ version → time < 2 ^ 32 → isNear (clockOf time (m .time)) ≡ true
-      → nonceRefusal set (nonceBody version time random) m ≡ 0
-  unfolding nonceRefusal leastOf cipherRefused beyondOf nearOf nonceClock
-  nonce-passes set m n v low t near =
-      simp (
-        length-nonce version time random n,
-        nonce-version version time random (omega arith),
-        nonce-cipher version time random,
-        nonce-time version time random t,
-        near,
-        le-ltb 2 version v,
-        le-ltb version (set .lowest) low,
-        ends (set .server),
-        least (ltb version 2),
-        off (set .server),
-      )
-    where
-      ends : (b : Bool) → pick b (eqb 0 1) (not (eqb 0 0)) ≡ false
-      ends true = refl
-      ends false = refl
-
-      least : (b : Bool) → ltb 60 (pick b 28 60) ≡ false
-      least true = refl
-      least false = refl
-
-      off : (b : Bool) → (not b && false) ≡ false
-      off true = refl
-      off false = refl
-
 module _ (flag : Bool) (s p : NetPid) where
   -- the Handshake with the flag, or without
-  abbrev hand : List ℕ
+  abbrev pub hand : List ℕ
   hand = handshakeBody (pick flag 0x800 0) s p
 
-  small-hand : Small hand
+  pub small-hand : Small hand
   small-hand = small-handshake (pick flag 0x800 0) s p
 
   hand-flags : le (part hand 0 4) ≡ pick flag 0x800 0
@@ -123,7 +61,7 @@ module _ (flag : Bool) (s p : NetPid) where
       fits true = lit< tt
       fits false = lit< tt
 
-  hand-flag : flagOf hand ≡ flag
+  pub hand-flag : flagOf hand ≡ flag
   unfolding flagOf
   hand-flag = rw hand-flags (go flag)
     where
@@ -132,7 +70,7 @@ module _ (flag : Bool) (s p : NetPid) where
       go false = refl
 
   -- a Handshake passes, if a client that did not offer gets no flag
-  hand-passes : (set : Settings) → (not (set .server) && (not (set .allows) && flag)) ≡ false → handshakeRefusal set hand ≡ 0
+  pub hand-passes : (set : Settings) → (not (set .server) && (not (set .allows) && flag)) ≡ false → handshakeRefusal set hand ≡ 0
   unfolding handshakeRefusal
   hand-passes set h = simp (length-handshake (pick flag 0x800 0) s p, hand-flag, h)
 
@@ -162,94 +100,163 @@ hand-size : (p : Bool) → 44 + pick p 0 0 ≡ 44
 hand-size true = refl
 hand-size false = refl
 
-module _ (oc os pad : Bool) (lc ls kc ks : ℕ) (low-c : lc ≤ 2) (low-s : ls ≤ 2) (c s : Caller) (b1 b2 b3 b4 : List ℕ) (m3 m4 : Moment) (g : Able c s b1 b2 b3 b4) where
+module _ (x y : Choices) (meet : Meet x y) (c s : Caller) (b1 b2 b3 b4 : List ℕ) (m3 m4 : Moment) (g : Able c s b1 b2 b3 b4) where
   abbrev C : Settings
-  C = record { server = false; allows = oc; lowest = lc; padded = pad }
+  C = settingsOf false x
 
   abbrev S : Settings
-  S = record { server = true; allows = os; lowest = ls; padded = pad }
+  S = settingsOf true y
+
+  -- both have the cipher
+  abbrev z : Bool
+  z = bothOf x y
 
   abbrev c0 : Link
-  c0 = during C kc false 0 0 0 4294967294 4294967294
+  c0 = during C (x .keyid) false false 0 0 0 4294967294 4294967294
 
   abbrev s0 : Link
-  s0 = during S ks false 0 0 0 4294967294 4294967294
+  s0 = during S (y .keyid) false false 0 0 0 4294967294 4294967294
 
   abbrev c1 : Link
-  c1 = during C kc false 0 1 0 4294967295 4294967294
+  c1 = during C (x .keyid) false false 0 1 0 4294967295 4294967294
 
   abbrev s1 : Link
-  s1 = during S ks false 2 1 0 4294967294 4294967295
+  s1 = during S (y .keyid) z false 2 1 0 4294967294 4294967295
 
   abbrev s2 : Link
-  s2 = during S ks false 2 2 0 4294967295 4294967295
+  s2 = during S (y .keyid) z false 2 2 0 4294967295 4294967295
 
   abbrev c2 : Link
-  c2 = during C kc false 2 2 0 4294967295 4294967295
+  c2 = during C (x .keyid) z false 2 2 0 4294967295 4294967295
 
   abbrev c3 : Link
-  c3 = during C kc false 2 3 (pick pad 3 0) 0 4294967295
+  c3 = during C (x .keyid) z false 2 3 (pick (x .padded || z) 3 0) 0 4294967295
 
   abbrev s3 : Link
-  s3 = during S ks (os && oc) 2 3 0 4294967295 0
+  s3 = during S (y .keyid) z (y .allows && x .allows) 2 3 0 4294967295 0
+
+  abbrev pointC : List ℕ
+  pointC = pick (x .cipher) (c .drawn .point) (replicate 32 0)
+
+  abbrev pointS : List ℕ
+  pointS = pick z (s .drawn .point) (replicate 32 0)
 
   abbrev nonceC : List ℕ
-  nonceC = nonceBody 2 (c .told .time) (c .random)
+  nonceC = nonceBody (pick (x .cipher) (x .keyid) 0) (offerOf C) 2 (c .told .time) (c .drawn .random) pointC
 
   abbrev nonceS : List ℕ
-  nonceS = nonceBody 2 (s .told .time) (s .random)
+  nonceS = nonceBody (pick z (y .keyid) 0) (pick z 1 0) 2 (s .told .time) (s .drawn .random) pointS
+
+  len-c : length nonceC ≡ 60
+  len-c = length-nonce _ _ 2 _ (c .drawn .random) pointC (g .client-random) (point-length (x .cipher) _ (g .client-point))
+
+  len-s : length nonceS ≡ 60
+  len-s = length-nonce _ _ 2 _ (s .drawn .random) pointS (g .server-random) (point-length z _ (g .server-point))
+
+  passes-c : nonceRefusal s0 nonceC (s .heard) ≡ 0
+  passes-c =
+      nonce-passes _ _ 2 (c .told .time) (c .drawn .random) pointC s0 (s .heard) (g .client-random)
+      (point-length (x .cipher) _ (g .client-point)) (omega arith) (meet .server-lowest) (g .client-clock)
+      (near (c .told .time) (s .heard .time) (g .client-not-ahead) (g .client-not-behind))
+      (nine _ _ 2 (c .told .time) (c .drawn .random) pointC s0 (pick-small (x .cipher) (x .keyid) (meet .client-key))
+      (offer-small C) (offer-taken x y meet)
+      (ap (λ (b : Bool). b && not (eqb (pick (x .cipher) (x .keyid) 0) (y .keyid))) (offer-chosen x y) ∙ offer-key x y meet))
+
+  passes-s : nonceRefusal c1 nonceS (c .heard) ≡ 0
+  passes-s =
+      nonce-passes _ _ 2 (s .told .time) (s .drawn .random) pointS c1 (c .heard) (g .server-random)
+      (point-length z _ (g .server-point)) (omega arith) (meet .client-lowest) (g .server-clock)
+      (near (s .told .time) (c .heard .time) (g .server-not-ahead) (g .server-not-behind))
+      (nine _ _ 2 (s .told .time) (s .drawn .random) pointS c1 (pick-small z (y .keyid) (meet .server-key))
+      (answer-small z) (answer-taken x y meet)
+      (ap (λ (b : Bool). b && not (eqb (pick z (y .keyid) 0) (x .keyid))) (answer-chosen x y) ∙ answer-key x y meet))
 
   -- the client's Nonce
-  pub sent1 : nonceStep c0 (c .random) (c .told) (length b1) ≡ record { link = c1; answer = Written 76 }
-  unfolding nonceStep versionOf sendRefusal maySend allowedOf sentOf stageAfter awaitsSent awaitedSent owesSent sizeOf tailOf padsOf paddedOf phaseAfter
-  sent1 = sends c0 s0 0x7acb87aa nonceC b1 60 (length-nonce 2 _ (c .random) (g .client-random)) (lit< tt) (g .room1) refl refl
+  pub sent1 : nonceStep c0 (c .drawn) (c .told) (length b1) ≡ record { link = c1; answer = Written 76 }
+  unfolding nonceStep ourNonce versionOf encryptionOf sentKeyId sentPoint offersOrTakes sendRefusal maySend allowedOf sentOf
+      stageAfter awaitsSent awaitedSent owesSent sizeOf tailOf padsOf paddedOf phaseAfter
+  sent1 = sends c0 s0 0x7acb87aa nonceC b1 60 len-c (lit< tt) (g .room1) refl refl
 
-  pub got1 : receiveOf s0 (nonceBuffer c0 (c .random) (c .told) b1) (s .heard) ≡ gives s1 (Packet 0x7acb87aa 76 12 60)
-  unfolding nonceBuffer castagnoliOf turnRefusal sendRefusal maySend lengthRefusal allowedOf bodyRefusal afterOf agreedAfter versionAfter stageAfter awaitsAfter owesAfter owedAfter versionOf sizeOf tailOf padsOf paddedOf
+  pub got1 : receiveOf s0 (nonceBuffer c0 (c .drawn) (c .told) b1) (s .heard) ≡ gives s1 (Packet 0x7acb87aa 76 12 60)
+  unfolding nonceBuffer ourNonce castagnoliOf turnRefusal sendRefusal maySend lengthRefusal allowedOf bodyRefusal afterOf
+      agreedAfter versionAfter cipheredAfter stageAfter awaitsAfter owesAfter owedAfter versionOf encryptionOf
+      sentKeyId sentPoint offersOrTakes sizeOf tailOf padsOf paddedOf
   got1 =
-      receives c0 s0 0x7acb87aa nonceC b1 60 (length-nonce 2 _ (c .random) (g .client-random)) (lit< tt) (g .room1) refl refl (s .heard)
-      (record { number = refl; checksum = refl; stage = refl; profile = refl; turn = refl }) refl refl (lit< tt) (lit< tt) (small-nonce 2 (c .told .time) (c .random) (g .client-bytes))
-      (nonce-passes 2 (c .told .time) (c .random) S (s .heard) (g .client-random) (omega arith) low-s (g .client-clock) (near (c .told .time) (s .heard .time) (g .client-not-ahead) (g .client-not-behind)))
-      ∙ rw (nonce-version 2 (c .told .time) (c .random) (lit< tt))
+      receives c0 s0 0x7acb87aa nonceC b1 60 len-c (lit< tt) (g .room1) refl refl (s .heard)
+      (record { number = refl; checksum = refl; stage = refl; profile = refl; turn = refl }) refl refl (lit< tt) (lit< tt)
+      (small-nonce _ _ 2 (c .told .time) (c .drawn .random) pointC (g .client-bytes)
+      (point-small (x .cipher) _ (g .client-point-bytes))) passes-c
+      ∙ rw (
+        nonce-version _ _ 2 (c .told .time) (c .drawn .random) pointC (lit< tt),
+        nonce-cipher _ _ 2 (c .told .time) (c .drawn .random) pointC (offer-small C),
+        offer-chosen x y,
+      )
 
   -- the server's Nonce
-  pub sent2 : nonceStep s1 (s .random) (s .told) (length b2) ≡ record { link = s2; answer = Written 76 }
-  unfolding nonceStep versionOf sendRefusal maySend allowedOf sentOf stageAfter awaitsSent awaitedSent owesSent sizeOf tailOf padsOf paddedOf phaseAfter
-  sent2 = sends s1 c1 0x7acb87aa nonceS b2 60 (length-nonce 2 _ (s .random) (g .server-random)) (lit< tt) (g .room2) refl refl
+  pub sent2 : nonceStep s1 (s .drawn) (s .told) (length b2) ≡ record { link = s2; answer = Written 76 }
+  unfolding nonceStep ourNonce versionOf encryptionOf sentKeyId sentPoint offersOrTakes sendRefusal maySend allowedOf sentOf
+      stageAfter awaitsSent awaitedSent owesSent sizeOf tailOf padsOf paddedOf phaseAfter
+  sent2 = sends s1 c1 0x7acb87aa nonceS b2 60 len-s (lit< tt) (g .room2) refl refl
 
-  pub got2 : receiveOf c1 (nonceBuffer s1 (s .random) (s .told) b2) (c .heard) ≡ gives c2 (Packet 0x7acb87aa 76 12 60)
-  unfolding nonceBuffer castagnoliOf turnRefusal sendRefusal maySend lengthRefusal allowedOf bodyRefusal afterOf agreedAfter versionAfter stageAfter awaitsAfter owesAfter owedAfter versionOf sizeOf tailOf padsOf paddedOf
+  pub got2 : receiveOf c1 (nonceBuffer s1 (s .drawn) (s .told) b2) (c .heard) ≡ gives c2 (Packet 0x7acb87aa 76 12 60)
+  unfolding nonceBuffer ourNonce castagnoliOf turnRefusal sendRefusal maySend lengthRefusal allowedOf bodyRefusal afterOf
+      agreedAfter versionAfter cipheredAfter stageAfter awaitsAfter owesAfter owedAfter versionOf encryptionOf
+      sentKeyId sentPoint offersOrTakes sizeOf tailOf padsOf paddedOf
   got2 =
-      receives s1 c1 0x7acb87aa nonceS b2 60 (length-nonce 2 _ (s .random) (g .server-random)) (lit< tt) (g .room2) refl refl (c .heard)
-      (record { number = refl; checksum = refl; stage = refl; profile = refl; turn = refl }) refl refl (lit< tt) (lit< tt) (small-nonce 2 (s .told .time) (s .random) (g .server-bytes))
-      (nonce-passes 2 (s .told .time) (s .random) C (c .heard) (g .server-random) (omega arith) low-c (g .server-clock) (near (s .told .time) (c .heard .time) (g .server-not-ahead) (g .server-not-behind)))
-      ∙ rw (nonce-version 2 (s .told .time) (s .random) (lit< tt))
+      receives s1 c1 0x7acb87aa nonceS b2 60 len-s (lit< tt) (g .room2) refl refl (c .heard)
+      (record { number = refl; checksum = refl; stage = refl; profile = refl; turn = refl }) refl refl (lit< tt) (lit< tt)
+      (small-nonce _ _ 2 (s .told .time) (s .drawn .random) pointS (g .server-bytes)
+      (point-small z _ (g .server-point-bytes))) passes-s
+      ∙ rw (
+        nonce-version _ _ 2 (s .told .time) (s .drawn .random) pointS (lit< tt),
+        nonce-cipher _ _ 2 (s .told .time) (s .drawn .random) pointS (answer-small z),
+        answer-chosen x y,
+      )
 
   -- the client's Handshake
-  sent3 : handshakeStep c2 (c .pid) (s .pid) (length b3) ≡ record { link = c3; answer = Written 44 }
-  unfolding handshakeStep flagsOf sendRefusal maySend allowedOf sentOf stageAfter awaitsSent awaitedSent owesSent sizeOf tailOf padsOf paddedOf phaseAfter
-  sent3 = sends c2 s2 0x7682eef5 (hand oc (c .pid) (s .pid)) b3 28 (length-handshake _ (c .pid) (s .pid)) (lit< tt) (g .room3) refl (hand-size pad)
+  pub sent3 : handshakeStep c2 (c .pid) (s .pid) (length b3) ≡ record { link = c3; answer = Written 44 }
+  unfolding handshakeStep flagsOf sendRefusal maySend allowedOf sentOf stageAfter awaitsSent awaitedSent owesSent sizeOf
+      tailOf padsOf paddedOf phaseAfter
+  sent3 =
+      sends c2 s2 0x7682eef5 (hand (x .allows) (c .pid) (s .pid)) b3 28 (length-handshake _ (c .pid) (s .pid)) (lit< tt)
+      (g .room3) refl (hand-size (x .padded || z))
 
   got3 : receiveOf s2 (handshakeBuffer c2 (c .pid) (s .pid) b3) m3 ≡ gives s3 (Packet 0x7682eef5 44 12 28)
-  unfolding handshakeBuffer castagnoliOf turnRefusal sendRefusal maySend lengthRefusal allowedOf bodyRefusal afterOf agreedAfter versionAfter stageAfter awaitsAfter owesAfter owedAfter flagsOf sizeOf tailOf padsOf paddedOf
+  unfolding handshakeBuffer castagnoliOf turnRefusal sendRefusal maySend lengthRefusal allowedOf bodyRefusal afterOf
+      agreedAfter versionAfter cipheredAfter stageAfter awaitsAfter owesAfter owedAfter flagsOf sizeOf tailOf padsOf
+      paddedOf
   got3 =
-      receives c2 s2 0x7682eef5 (hand oc (c .pid) (s .pid)) b3 28 (length-handshake _ (c .pid) (s .pid)) (lit< tt) (g .room3) refl (hand-size pad) m3
-      (record { number = refl; checksum = refl; stage = refl; profile = refl; turn = refl }) refl refl (lit< tt) (lit< tt) (small-hand oc (c .pid) (s .pid))
-      (hand-passes oc (c .pid) (s .pid) S refl)
-      ∙ rw (hand-flag oc (c .pid) (s .pid))
+      receives c2 s2 0x7682eef5 (hand (x .allows) (c .pid) (s .pid)) b3 28 (length-handshake _ (c .pid) (s .pid)) (lit< tt)
+      (g .room3) refl (hand-size (x .padded || z)) m3
+      (record { number = refl; checksum = refl; stage = refl; profile = sym (meet .same-profile); turn = refl }) refl refl
+      (lit< tt) (lit< tt) (small-hand (x .allows) (c .pid) (s .pid)) (hand-passes (x .allows) (c .pid) (s .pid) S refl)
+      ∙ rw (hand-flag (x .allows) (c .pid) (s .pid))
 
   -- the server's Handshake, still under CRC-32
-  sent4 : handshakeStep s3 (s .pid) (c .pid) (length b4) ≡ record { link = during S ks (os && oc) 2 4 (pick pad 3 0) 0 0; answer = Written 44 }
-  unfolding handshakeStep flagsOf sendRefusal maySend allowedOf sentOf stageAfter awaitsSent awaitedSent owesSent sizeOf tailOf padsOf paddedOf phaseAfter
-  sent4 = sends s3 c3 0x7682eef5 (hand (os && oc) (s .pid) (c .pid)) b4 28 (length-handshake _ (s .pid) (c .pid)) (lit< tt) (g .room4) refl (hand-size pad)
+  pub sent4 : handshakeStep s3 (s .pid) (c .pid) (length b4) ≡ record { link = openOf true y z (y .allows && x .allows); answer = Written 44 }
+  unfolding handshakeStep flagsOf sendRefusal maySend allowedOf sentOf stageAfter awaitsSent awaitedSent owesSent sizeOf
+      tailOf padsOf paddedOf phaseAfter
+  sent4 =
+      sends s3 c3 0x7682eef5 (hand (y .allows && x .allows) (s .pid) (c .pid)) b4 28 (length-handshake _ (s .pid) (c .pid))
+      (lit< tt) (g .room4) refl (hand-size (y .padded || z))
 
-  got4 : receiveOf c3 (handshakeBuffer s3 (s .pid) (c .pid) b4) m4 ≡ gives (during C kc (oc && (os && oc)) 2 4 (pick pad 3 0) 0 0) (Packet 0x7682eef5 44 12 28)
-  unfolding handshakeBuffer castagnoliOf turnRefusal sendRefusal maySend lengthRefusal allowedOf bodyRefusal afterOf agreedAfter versionAfter stageAfter awaitsAfter owesAfter owedAfter flagsOf sizeOf tailOf padsOf paddedOf
+  got4 : receiveOf c3 (handshakeBuffer s3 (s .pid) (c .pid) b4) m4
+      ≡ gives (openOf false x z (x .allows && (y .allows && x .allows))) (Packet 0x7682eef5 44 12 28)
+  unfolding handshakeBuffer castagnoliOf turnRefusal sendRefusal maySend lengthRefusal allowedOf bodyRefusal afterOf
+      agreedAfter versionAfter cipheredAfter stageAfter awaitsAfter owesAfter owedAfter flagsOf sizeOf tailOf padsOf
+      paddedOf
   got4 =
-      receives s3 c3 0x7682eef5 (hand (os && oc) (s .pid) (c .pid)) b4 28 (length-handshake _ (s .pid) (c .pid)) (lit< tt) (g .room4) refl (hand-size pad) m4
-      (record { number = refl; checksum = off (os && oc); stage = refl; profile = refl; turn = refl }) refl refl (lit< tt) (lit< tt) (small-hand (os && oc) (s .pid) (c .pid))
-      (hand-passes (os && oc) (s .pid) (c .pid) C (only oc os))
-      ∙ rw (hand-flag (os && oc) (s .pid) (c .pid))
+      receives s3 c3 0x7682eef5 (hand (y .allows && x .allows) (s .pid) (c .pid)) b4 28
+      (length-handshake _ (s .pid) (c .pid)) (lit< tt) (g .room4) refl (hand-size (y .padded || z)) m4
+      (record {
+        number = refl;
+        checksum = off (y .allows && x .allows);
+        stage = refl;
+        profile = meet .same-profile;
+        turn = refl;
+      }) refl refl (lit< tt) (lit< tt) (small-hand (y .allows && x .allows) (s .pid) (c .pid))
+      (hand-passes (y .allows && x .allows) (s .pid) (c .pid) C (only (x .allows) (y .allows)))
+      ∙ rw (hand-flag (y .allows && x .allows) (s .pid) (c .pid))
     where
       off : (b : Bool) → false ≡ (b && false)
       off true = refl
@@ -271,38 +278,42 @@ module _ (oc os pad : Bool) (lc ls kc ks : ℕ) (low-c : lc ≤ 2) (low-s : ls �
   swap false true = refl
   swap false false = refl
 
-  -- set-up hands such links out: it takes every lowest version up to 2, with no key or with one that it does not refuse
-  pub set-ups : (k : Option (List ℕ)) → keyRefused k ≡ false
-      → (setUpOf C k ≡ Ready (freshOf C (keyIdOf k))) × (setUpOf S k ≡ Ready (freshOf S (keyIdOf k)))
-  set-ups k fine = (set-up-takes C k fine low-c, set-up-takes S k fine low-s)
-
   -- the exchange of two fresh links
   abbrev exchange : Opened
-  exchange = opens (freshOf C kc) (freshOf S ks) c s b1 b2 b3 b4 m3 m4
+  exchange = opens (madeOf false x) (madeOf true y) c s b1 b2 b3 b4 m3 m4
 
   whole : exchange
       ≡ record {
-        client = during C kc (oc && os) 2 4 (pick pad 3 0) 0 0;
-        server = during S ks (oc && os) 2 4 (pick pad 3 0) 0 0;
+        client = openOf false x z (x .allows && y .allows);
+        server = openOf true y z (x .allows && y .allows);
         sent = Written 76 ∷ Written 76 ∷ Written 44 ∷ Written 44 ∷ [];
         received = Packet 0x7acb87aa 76 12 60 ∷ Packet 0x7acb87aa 76 12 60 ∷ Packet 0x7682eef5 44 12 28 ∷ Packet 0x7682eef5 44 12 28 ∷ [];
       }
   unfolding opens freshOf
-  whole = rw (sent1, got1, sent2, got2, sent3, got3, sent4, got4, both oc os, swap oc os)
+  whole = rw (sent1, got1, sent2, got2, sent3, got3, sent4, got4, both (x .allows) (y .allows), swap (x .allows) (y .allows))
 
-  -- THE OPENING: both are open, and CRC-32C is agreed exactly if both allow it
-  pub opened : (exchange .client ≡ during C kc (oc && os) 2 4 (pick pad 3 0) 0 0) × (exchange .server ≡ during S ks (oc && os) 2 4 (pick pad 3 0) 0 0)
+  -- THE OPENING: both are open, CRC-32C is agreed exactly if both allow it, and the cipher is chosen exactly if both have it
+  pub opened : (exchange .client ≡ openOf false x z (x .allows && y .allows)) × (exchange .server ≡ openOf true y z (x .allows && y .allows))
   opened = (ap (λ (o : Opened). o .client) whole, ap (λ (o : Opened). o .server) whole)
+
+  -- AGREED: both are ciphered, or neither is
+  pub agree : exchange .client .ciphered ≡ exchange .server .ciphered
+  agree = ap (λ (o : Opened). o .client .ciphered) whole ∙ sym (ap (λ (o : Opened). o .server .ciphered) whole)
 
   -- each waits for the other's next packet
   pub each-awaits : Awaits (exchange .client) (exchange .server) × Awaits (exchange .server) (exchange .client)
-  unfolding castagnoliOf turnRefusal maySend paddedOf
-  each-awaits = rw whole (record { number = refl; checksum = refl; stage = refl; profile = refl; turn = refl }, record { number = refl; checksum = refl; stage = refl; profile = refl; turn = refl })
+  unfolding castagnoliOf turnRefusal maySend padsOf paddedOf
+  each-awaits =
+      rw whole (
+        record { number = refl; checksum = refl; stage = refl; profile = meet .same-profile; turn = refl },
+        record { number = refl; checksum = refl; stage = refl; profile = sym (meet .same-profile); turn = refl },
+      )
 
   -- every send call is accepted
   pub all-written : exchange .sent ≡ Written 76 ∷ Written 76 ∷ Written 44 ∷ Written 44 ∷ []
   all-written = ap (λ (o : Opened). o .sent) whole
 
   -- and every packet is received
-  pub all-received : exchange .received ≡ Packet 0x7acb87aa 76 12 60 ∷ Packet 0x7acb87aa 76 12 60 ∷ Packet 0x7682eef5 44 12 28 ∷ Packet 0x7682eef5 44 12 28 ∷ []
+  pub all-received : exchange .received
+      ≡ Packet 0x7acb87aa 76 12 60 ∷ Packet 0x7acb87aa 76 12 60 ∷ Packet 0x7682eef5 44 12 28 ∷ Packet 0x7682eef5 44 12 28 ∷ []
   all-received = ap (λ (o : Opened). o .received) whole

@@ -14,7 +14,7 @@ use Rattle.link_state.specs.declared.Link.{Link}
 use Rattle.link_state.specs.declared.Moment.{Moment}
 use Rattle.packet.specs.Allowed.{allowedOf}
 use Rattle.packet.specs.Body.{bodyOf}
-use Rattle.packet_in.specs.Head.{lengthRefusal}
+use Rattle.packet_head.specs.Head.{lengthRefusal}
 use Rattle.packet_out.specs.Size.{sizeOf}
 use Rattle.packet_out.specs.Packet.{packetOf}
 use Rattle.packet_out.specs.declared.Sent.the-variants.{Written}

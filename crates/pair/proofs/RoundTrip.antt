@@ -18,15 +18,15 @@ use Rattle.link_state.specs.declared.Link.{Link}
 use Rattle.link_state.specs.declared.Moment.{Moment}
 use Rattle.packet.specs.Sum.{castagnoliOf, sumOf}
 use Rattle.packet.specs.Allowed.{allowedOf}
-use Rattle.packet.specs.Padding.{paddedOf, padsOf, tailOf, wordsAllowed, foursOf}
-use Rattle.packet_in.specs.Head.{lengthRefusal, headRefusal}
+use Rattle.packet.specs.Padding.{padsOf, tailOf, wordsAllowed, foursOf}
+use Rattle.packet_head.specs.Head.{lengthRefusal, headRefusal}
 use Rattle.packet_in.specs.Frame.{wholeOf, rowsOf}
 use Rattle.packet.specs.declared.Arrival.the-variants.{Packet}
 use Rattle.packet_out.specs.Size.{sizeOf}
 use Rattle.packet_out.specs.Packet.{headOf, frontOf, packetOf}
 use Rattle.packet_out.proofs.PacketLaws.{length-front, length-packet}
 use Rattle.link.specs.Look.{lookOf}
-use Rattle.link.specs.Next.{afterOf}
+use Rattle.link_next.specs.Next.{afterOf}
 use Rattle.link.specs.Receive.{bodyRefusal, gives, refuse, receiveOf}
 use Rattle.pair.specs.Awaits.{Awaits}
 use Rattle.pair.proofs.SumLaws.{small-front, sum-lt}
@@ -41,10 +41,10 @@ same-sum : (k l : Link) (s : List ℕ) → castagnoliOf k ≡ castagnoliOf l →
 unfolding sumOf
 same-sum k l s e = ap (λ (c : Bool). pick c (crc (reflected Castagnoli) s) (crc (reflected Ieee) s)) e
 
--- and with the same profile, at the same stage
-same-tail : (k l : Link) (n : ℕ) → k .stage ≡ l .stage → paddedOf k ≡ paddedOf l → tailOf k n ≡ tailOf l n
-unfolding tailOf padsOf paddedOf
-same-tail k l n e f = rw (e, f)
+-- and with the same profile
+same-tail : (k l : Link) (n : ℕ) → padsOf k ≡ padsOf l → tailOf k n ≡ tailOf l n
+unfolding tailOf
+same-tail k l n e = rw e
 
 -- a whole packet at the front of p, behind so many bytes, passes every row
 rows-whole : (k : Link) (p : List ℕ) (size zeros number kind before : ℕ) → le (part p 0 4) ≡ size → lengthRefusal k size ≡ 0 → 12 ≤ length p → le (part p 4 4) ≡ number
@@ -92,13 +92,13 @@ module _ (l : Link) (kind : ℕ) (body rest : List ℕ) where
   unfolding packetOf frontOf headOf
   shape = simp append-assoc
 
-  reads-length : size < 2 ^ 32 → le (part p 0 4) ≡ size
+  pub reads-length : size < 2 ^ 32 → le (part p 0 4) ≡ size
   reads-length h = ap (λ (t : List ℕ). le (part t 0 4)) shape ∙ field [] _ size 0 refl h
 
-  reads-number : l .sends < 2 ^ 32 → le (part p 4 4) ≡ l .sends
+  pub reads-number : l .sends < 2 ^ 32 → le (part p 4 4) ≡ l .sends
   reads-number h = ap (λ (t : List ℕ). le (part t 4 4)) shape ∙ field (bytes 4 size) _ (l .sends) 4 (length-bytes 4 size) h
 
-  reads-kind : kind < 2 ^ 32 → le (part p 8 4) ≡ kind
+  pub reads-kind : kind < 2 ^ 32 → le (part p 8 4) ≡ kind
   reads-kind h =
       let e : length (bytes 4 size ++ bytes 4 (l .sends)) ≡ 8 = simp (length-append, length-bytes) in
       ap (λ (t : List ℕ). le (part t 8 4)) (shape ∙ sym (append-assoc (bytes 4 size) (bytes 4 (l .sends)) _))
@@ -124,7 +124,7 @@ module _ (l : Link) (kind : ℕ) (body rest : List ℕ) where
       ap (λ (t : List ℕ). le (part t size zeros)) (split ∙ sym (append-assoc F (bytes 4 (sumOf l F)) (replicate zeros 0 ++ rest)))
       ∙ (ap le (part-mid (F ++ bytes 4 (sumOf l F)) (replicate zeros 0) rest size zeros n (length-replicate zeros 0)) ∙ le-zeros zeros)
 
-  long : size + zeros ≤ length p
+  pub long : size + zeros ≤ length p
   unfolding sizeOf
   long = simp length-append (omega (arith, length-packet l kind body))
 
@@ -163,7 +163,7 @@ module _ (l : Link) (kind : ℕ) (body rest : List ℕ) (k : Link) (a : Awaits k
       ∙ ap (sumOf k) (sym (reads-front l kind body rest))) in
       let e : length body + 16 - 16 ≡ length body = omega arith in
       rows-whole k P (length body + 16) z (l .sends) kind before (reads-length l kind body rest small) len (omega (arith, long l kind body rest))
-      (reads-number l kind body rest number) (reads-kind l kind body rest kind-fits) head (same-tail k l (length body + 16) (a .stage) (a .profile)) (long l kind body rest) sum
+      (reads-number l kind body rest number) (reads-kind l kind body rest kind-fits) head (same-tail k l (length body + 16) (a .profile)) (long l kind body rest) sum
       (reads-zeros l kind body rest)
       ∙ ap (λ (n : ℕ). Packet kind (before + (length body + 16 + z)) (before + 12) n) e
 

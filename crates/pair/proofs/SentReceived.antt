@@ -10,13 +10,13 @@ use Rattle.wire.proofs.ByteLaws.{Small}
 use Rattle.link_state.specs.declared.Link.{Link}
 use Rattle.link_state.specs.declared.Moment.{Moment}
 use Rattle.packet.specs.Allowed.{allowedOf}
-use Rattle.packet_in.specs.Head.{lengthRefusal}
+use Rattle.packet_head.specs.Head.{lengthRefusal}
 use Rattle.packet.specs.declared.Arrival.the-variants.{Packet}
 use Rattle.packet_out.specs.Size.{sizeOf}
 use Rattle.packet_out.specs.Packet.{packetOf}
 use Rattle.packet_out.specs.declared.Sent.the-variants.{Written}
 use Rattle.packet_out.proofs.PacketLaws.{length-packet}
-use Rattle.link.specs.Next.{afterOf}
+use Rattle.link_next.specs.Next.{afterOf}
 use Rattle.link.specs.Receive.{bodyRefusal, gives, receiveOf}
 use Rattle.send_rules.specs.Control.{controlAnswer, bufferBy, controlBuffer}
 use Rattle.send_rules.proofs.ControlLaws.{fits}

@@ -1,10 +1,10 @@
 -- Words of value 4 before a packet, as a link that allows them finds them. Assumes nothing.
-use borrow.Author.Tests.{ltb-true, ltb-false, le-leb, lt-leb, ne-eqb}
+use borrow.Author.Tests.{ltb-true, ltb-false, lt-ltb, le-leb, lt-leb, ne-eqb}
 use native.Mathlib.Omega.{arith}
 use mathlib.Core.Path.{_≡_, refl, ap, sym, _∙_}
 use mathlib.Core.Bool.{Bool, true, false, not, _&&_}
 use mathlib.Core.List.{List, [], _∷_, _++_, append-assoc, append-nil}
-use Prim.Native.Nat.{ℕ, zero, suc, _+_, _*_, _≤_, _<_}
+use Prim.Native.Nat.{ℕ, zero, suc, _+_, _-_, _*_, _≤_, _<_}
 use lib.ListN.{length, replicate, length-append}
 use lib.Seq.{drop-at}
 use lib.Dec.{ltb, leb, eqb, lit<}
@@ -14,7 +14,7 @@ use Rattle.wire.proofs.ByteLaws.{length-bytes, le-bytes, part-mid}
 use Rattle.link_state.specs.declared.Link.{Link}
 use Rattle.packet.specs.Padding.{paddedOf, wordsAllowed, foursOf}
 use Rattle.packet.specs.declared.Arrival.the-variants.{Incomplete}
-use Rattle.packet_in.specs.Words.{wordAt, wordsOf}
+use Rattle.packet_head.specs.Words.{wordAt, wordsOf}
 use Rattle.packet_in.specs.Frame.{rowsOf, frameOf}
 
 pub length-fours : (w : ℕ) → length (foursOf w) ≡ w * 4
@@ -54,8 +54,8 @@ word-cut : (s : List ℕ) (at : ℕ) → length s < at + 4 → wordAt s at ≡ f
 unfolding wordAt
 word-cut s at h = rw (lt-leb (at + 4) (length s) h)
 
-long : (w : ℕ) → length (foursOf w ++ []) < w * 4 + 4
-long w = simp (length-append, length-fours) (omega arith)
+long : (w : ℕ) (p : List ℕ) → length p < 4 → length (foursOf w ++ p) < w * 4 + 4
+long w p h = simp (length-append, length-fours) (omega arith)
 
 -- each of them
 word-each : (w i : ℕ) (p : List ℕ) (at : ℕ) → at ≡ i * 4 → i < w → wordAt (foursOf w ++ p) at ≡ true
@@ -115,44 +115,46 @@ words-are k (suc (suc (suc zero))) p h n x = rw (
 )
 words-are k (suc (suc (suc (suc w)))) p h n x = absurd (omega (arith, allowed-few k))
 
--- the same where nothing stands behind them
-words-end : (k : Link) (w : ℕ) → w ≤ wordsAllowed k → wordsOf k (foursOf w ++ []) ≡ w
+-- the same where less than a word stands behind them
+words-cut : (k : Link) (w : ℕ) (p : List ℕ) → w ≤ wordsAllowed k → length p < 4 → wordsOf k (foursOf w ++ p) ≡ w
 unfolding wordsOf foursOf
-words-end k zero h = go (eqb (wordsAllowed k) 0)
+words-cut k zero p h n = go (eqb (wordsAllowed k) 0)
   where
-    go : (b : Bool) → _≡_ {A = ℕ} (pick b 0 (first ((not (wordAt [] 0), 0) ∷ (not (wordAt [] 4), 1) ∷ (
+    go : (b : Bool) → _≡_ {A = ℕ} (pick b 0 (first ((not (wordAt p 0), 0) ∷ (not (wordAt p 4), 1) ∷ (
       not
-          (wordAt [] 8),
+          (wordAt p 8),
       2,
-    ) ∷ (not (wordAt [] 12), 3) ∷ []) 4)) 0
+    ) ∷ (not (wordAt p 12), 3) ∷ []) 4)) 0
     go true = refl
-    go false = rw (word-cut [] 0 (lit< tt))
-words-end k (suc zero) h = rw (some k 0 h, word-each 1 0 [] 0 refl (lit< tt), word-cut (foursOf 1 ++ []) 4 (long 1))
-words-end k (suc (suc zero)) h = rw (
+    go false = rw (word-cut p 0 n)
+words-cut k (suc zero) p h n =
+    rw (some k 0 h, word-each 1 0 p 0 refl (lit< tt), word-cut (foursOf 1 ++ p) 4 (long 1 p n))
+words-cut k (suc (suc zero)) p h n = rw (
   some k 1 h,
-  word-each 2 0 [] 0 refl (lit< tt),
-  word-each 2 1 [] 4 refl
+  word-each 2 0 p 0 refl (lit< tt),
+  word-each 2 1 p 4 refl
       (lit< tt),
-  word-cut (foursOf 2 ++ []) 8 (long 2),
+  word-cut (foursOf 2 ++ p) 8 (long 2 p n),
 )
-words-end k (suc (suc (suc zero))) h =
+words-cut k (suc (suc (suc zero))) p h n =
     rw (
       some k 2 h,
-      word-each 3 0 [] 0 refl (lit< tt),
-      word-each 3 1 [] 4 refl (lit< tt),
-      word-each 3 2 [] 8 refl
+      word-each 3 0 p 0 refl (lit< tt),
+      word-each 3 1 p 4 refl (lit< tt),
+      word-each 3 2 p 8 refl
           (lit< tt),
-      word-cut (foursOf 3 ++ []) 12 (long 3),
+      word-cut (foursOf 3 ++ p) 12 (long 3 p n),
     )
-words-end k (suc (suc (suc (suc w)))) h = absurd (omega (arith, allowed-few k))
+words-cut k (suc (suc (suc (suc w)))) p h n = absurd (omega (arith, allowed-few k))
 
--- words alone are awaited with what follows them
-pub words-wait : (k : Link) (w : ℕ) → w ≤ wordsAllowed k → frameOf k (foursOf w ++ []) ≡ Incomplete 4
+-- words with less than a word behind them are awaited with what follows
+pub words-wait : (k : Link) (w : ℕ) (p : List ℕ) → w ≤ wordsAllowed k → length p < 4
+    → frameOf k (foursOf w ++ p) ≡ Incomplete (4 - length p)
 unfolding frameOf rowsOf
-words-wait k w h =
+words-wait k w p h n =
     let few = allowed-few k in
     let not-four : eqb w 4 ≡ false = ne-eqb w 4 (λ e. omega arith) in
-    rw (words-end k w h, not-four, drop-at (foursOf w) [] (w * 4) (length-fours w))
+    rw (words-cut k w p h n, not-four, drop-at (foursOf w) p (w * 4) (length-fours w), lt-ltb (length p) 4 n)
 
 -- THE WORDS ARE SKIPPED: what stands behind them is framed as if it stood in front, but for the bytes before it
 pub skipped : (k : Link) (w : ℕ) (p : List ℕ) → w ≤ wordsAllowed k → 4 ≤ length p → eqb (le (part p 0 4)) 4 ≡ false

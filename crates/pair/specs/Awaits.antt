@@ -2,7 +2,7 @@
 use mathlib.Core.Path.{_≡_}
 use Rattle.link_state.specs.declared.Link.{Link}
 use Rattle.packet.specs.Sum.{castagnoliOf}
-use Rattle.packet.specs.Padding.{paddedOf}
+use Rattle.packet.specs.Padding.{padsOf}
 use Rattle.link.specs.Look.{turnRefusal}
 
 -- k waits for the next packet of l: it awaits its number, under the same checksum, at the same stage and with the same
@@ -11,5 +11,5 @@ pub record Awaits (k l : Link) : Type 0 where
   pub number : k .gets ≡ l .sends
   pub checksum : castagnoliOf k ≡ castagnoliOf l
   pub stage : k .stage ≡ l .stage
-  pub profile : paddedOf k ≡ paddedOf l
+  pub profile : padsOf k ≡ padsOf l
   pub turn : turnRefusal k ≡ 0

@@ -23,7 +23,8 @@ pub record Owing (l k : Link) : Type 0 where
   pub id : l .awaits ≡ true → l .awaited ≡ k .owed
   pub fits : k .owed < 2 ^ 64
 
--- two links whose opening is over, each of which waits for the other's next packet and owes the Pong that the other awaits
+-- two links whose opening is over, each of which waits for the other's next packet and owes the Pong that the other
+-- awaits
 pub record Alive (l k : Link) : Type 0 where
   pub there : Awaits k l
   pub back : Awaits l k
@@ -43,7 +44,8 @@ pub record Exchanged : Type 0 where
   pub sent : List Sent
   pub received : List Arrival
 
--- l sends a Ping with an ID in the buffer b1, k receives it, sends its Pong in b2, and l receives that; k's clock is m1, l's m2
+-- l sends a Ping with an ID in the buffer b1, k receives it, sends its Pong in b2, and l receives that; k's clock is
+-- m1, l's m2
 unfoldable pub exchangeOf : Link → Link → ℕ → List ℕ → List ℕ → Moment → Moment → Exchanged
 exchangeOf l k id b1 b2 m1 m2 =
     let sent1 = pingStep l id (length b1) in
@@ -67,7 +69,8 @@ pub record KeptAlive (e : Exchanged) : Type 0 where
 
 -- ---- any Pings and Pongs
 
--- a call: whether the first link makes it, whether it sends a Ping or a Pong, a Ping's ID, the buffer, and the other's clock
+-- a call: whether the first link makes it, whether it sends a Ping or a Pong, a Ping's ID, the buffer, and the
+-- other's clock
 pub record Call : Type 0 where
   pub ours : Bool
   pub ping : Bool

@@ -11,17 +11,16 @@ use Rattle.wire.specs.Choice.{pick}
 use Rattle.link_state.specs.declared.Link.{Link}
 use Rattle.link_state.specs.declared.Moment.{Moment}
 use Rattle.link_state.specs.Turn.{stageAfter}
-use Rattle.link_state.specs.SetUp.{freshOf}
 use Rattle.packet_out.specs.declared.Sent.{Sent}
 use Rattle.packet_out.specs.declared.Sent.the-variants.{Written, Refused}
-use Rattle.link.specs.Next.{afterOf}
+use Rattle.link_next.specs.Next.{afterOf}
 use Rattle.link.specs.declared.Received.{Received}
 use Rattle.send_rules.specs.Sent.{sentOf}
 use Rattle.send_rules.specs.Control.{stepBy}
 use Rattle.message_out.specs.Outgoing.{kindOf, bodyOf}
 use Rattle.message_out.specs.MessageStep.{messageStep}
 use Rattle.pair.specs.Awaits.{Awaits}
-use Rattle.pair.specs.Opens.{Caller, Able, Opened, opens}
+use Rattle.pair.specs.Opens.{Choices, madeOf, Meet, Caller, Able, Opened, opens}
 use Rattle.pair.proofs.Opening.{opened, each-awaits}
 use Rattle.pair_messages.specs.Hear.{Heard}
 use Rattle.pair_messages.specs.Conversation.{Saying, Sound, AllSound, answerTo, sender, receiver, heardOf, meantOf, along, Joined}
@@ -120,21 +119,21 @@ all-heard l k (s ∷ ss) j ok = go (s .ours) (λ l2 k2 j2. all-heard l2 k2 ss j2
 
 -- ---- from the opening on
 
-module _ (oc os pad : Bool) (lc ls kc ks : ℕ) (low-c : lc ≤ 2) (low-s : ls ≤ 2) (c s : Caller) (b1 b2 b3 b4 : List ℕ) (m3 m4 : Moment) (g : Able c s b1 b2 b3 b4) where
+module _ (x y : Choices) (meet : Meet x y) (c s : Caller) (b1 b2 b3 b4 : List ℕ) (m3 m4 : Moment) (g : Able c s b1 b2 b3 b4) where
   -- the exchange of a fresh client and a fresh server
   abbrev exchange : Opened
-  exchange = opens (freshOf (record { server = false; allows = oc; lowest = lc; padded = pad }) kc) (freshOf (record { server = true; allows = os; lowest = ls; padded = pad }) ks) c s b1 b2 b3 b4 m3 m4
+  exchange = opens (madeOf false x) (madeOf true y) c s b1 b2 b3 b4 m3 m4
 
   joined : Joined (exchange .client) (exchange .server)
   joined =
       record {
-        there = each-awaits oc os pad lc ls kc ks low-c low-s c s b1 b2 b3 b4 m3 m4 g .1;
-        back = each-awaits oc os pad lc ls kc ks low-c low-s c s b1 b2 b3 b4 m3 m4 g .0;
-        sides = rw (opened oc os pad lc ls kc ks low-c low-s c s b1 b2 b3 b4 m3 m4 g .0, opened oc os pad lc ls kc ks low-c low-s c s b1 b2 b3 b4 m3 m4 g .1);
-        open-l = rw (opened oc os pad lc ls kc ks low-c low-s c s b1 b2 b3 b4 m3 m4 g .0) (lit≤ tt);
-        open-k = rw (opened oc os pad lc ls kc ks low-c low-s c s b1 b2 b3 b4 m3 m4 g .1) (lit≤ tt);
-        number-l = rw (opened oc os pad lc ls kc ks low-c low-s c s b1 b2 b3 b4 m3 m4 g .0) (lit< tt);
-        number-k = rw (opened oc os pad lc ls kc ks low-c low-s c s b1 b2 b3 b4 m3 m4 g .1) (lit< tt);
+        there = each-awaits x y meet c s b1 b2 b3 b4 m3 m4 g .1;
+        back = each-awaits x y meet c s b1 b2 b3 b4 m3 m4 g .0;
+        sides = rw (opened x y meet c s b1 b2 b3 b4 m3 m4 g .0, opened x y meet c s b1 b2 b3 b4 m3 m4 g .1);
+        open-l = rw (opened x y meet c s b1 b2 b3 b4 m3 m4 g .0) (lit≤ tt);
+        open-k = rw (opened x y meet c s b1 b2 b3 b4 m3 m4 g .1) (lit≤ tt);
+        number-l = rw (opened x y meet c s b1 b2 b3 b4 m3 m4 g .0) (lit< tt);
+        number-k = rw (opened x y meet c s b1 b2 b3 b4 m3 m4 g .1) (lit< tt);
       }
 
   -- so all that a client and a server send each other after their opening is heard

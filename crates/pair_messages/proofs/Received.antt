@@ -12,14 +12,14 @@ use Rattle.wire.proofs.ByteLaws.{Small}
 use Rattle.link_state.specs.declared.Link.{Link}
 use Rattle.link_state.specs.declared.Moment.{Moment}
 use Rattle.packet.specs.Allowed.{allowedOf}
-use Rattle.packet_in.specs.Head.{lengthRefusal}
+use Rattle.packet_head.specs.Head.{lengthRefusal}
 use Rattle.packet.specs.Body as Body
 use Rattle.packet.specs.declared.Arrival.the-variants.{Packet}
 use Rattle.packet_out.specs.Size.{sizeOf}
 use Rattle.packet_out.specs.Packet.{packetOf}
 use Rattle.packet_out.specs.declared.Sent.the-variants.{Written}
 use Rattle.packet_out.proofs.PacketLaws.{length-packet}
-use Rattle.link.specs.Next.{afterOf}
+use Rattle.link_next.specs.Next.{afterOf}
 use Rattle.link.specs.Receive.{bodyRefusal, gives, receiveOf}
 use Rattle.send_rules.specs.Control.{bufferBy}
 use Rattle.message_out.specs.Outgoing.{kindOf, bodyOf, wrongWay}
@@ -32,12 +32,12 @@ use Rattle.pair_messages.proofs.Accepted.{Accepted, accepted}
 use Rattle.pair_messages.proofs.SmallBodies.{small-body}
 
 -- a type that no rule of the link itself speaks of
-record Plain (kind : ℕ) : Type 0 where
-  nonce : eqb kind 0x7acb87aa ≡ false
-  handshake : eqb kind 0x7682eef5 ≡ false
-  ping : eqb kind 0x5730a2df ≡ false
-  pong : eqb kind 0x8430eaa7 ≡ false
-  fits : kind < 2 ^ 32
+pub record Plain (kind : ℕ) : Type 0 where
+  pub nonce : eqb kind 0x7acb87aa ≡ false
+  pub handshake : eqb kind 0x7682eef5 ≡ false
+  pub ping : eqb kind 0x5730a2df ≡ false
+  pub pong : eqb kind 0x8430eaa7 ≡ false
+  pub fits : kind < 2 ^ 32
 
 plain : (server : Bool) (w : Outgoing) → wrongWay server w ≡ false → Plain (kindOf w)
 unfolding kindOf wrongWay
@@ -53,7 +53,7 @@ module _ (k : Link) (over : 4 ≤ k .stage) where
   no-opening : ltb (k .stage) 4 ≡ false
   no-opening = le-ltb (k .stage) 4 over
 
-  length-passes : (n : ℕ) → n ≤ 16777199 → lengthRefusal k (n + 16) ≡ 0
+  pub length-passes : (n : ℕ) → n ≤ 16777199 → lengthRefusal k (n + 16) ≡ 0
   unfolding lengthRefusal
   length-passes n h = simp (no-opening, le-ltb (n + 16) 16 (omega arith), le-ltb 16777215 (n + 16) (omega arith))
 
@@ -61,7 +61,7 @@ module _ (k : Link) (over : 4 ≤ k .stage) where
   unfolding allowedOf
   allowed kind pl = simp (no-opening, le-ltb (k .stage) 2 (omega arith), pl .nonce, pl .handshake)
 
-no-refusal : (k : Link) (kind : ℕ) (body : List ℕ) (m : Moment) → Plain kind → bodyRefusal k kind body m ≡ 0
+pub no-refusal : (k : Link) (kind : ℕ) (body : List ℕ) (m : Moment) → Plain kind → bodyRefusal k kind body m ≡ 0
 unfolding bodyRefusal
 no-refusal k kind body m pl = simp (pl .nonce, pl .handshake, pl .ping, pl .pong)
 
@@ -75,7 +75,7 @@ module _ (l k : Link) (w : Outgoing) (p b : List ℕ) (n : ℕ) (sent : messageA
   abbrev known : Accepted l w p (length b) n
   known = accepted l w p (length b) n sent
 
-  sent-plain : Plain (kindOf w)
+  pub sent-plain : Plain (kindOf w)
   sent-plain = plain (l .set .server) w (known .way)
 
   -- its type is allowed after the opening
@@ -83,7 +83,7 @@ module _ (l k : Link) (w : Outgoing) (p b : List ℕ) (n : ℕ) (sent : messageA
   may-come over = allowed k over (kindOf w) sent-plain
 
   -- the whole buffer: the packet, and what stood behind it
-  whole : messageBuffer l w p b ≡ packet ++ drop (length packet) b
+  pub whole : messageBuffer l w p b ≡ packet ++ drop (length packet) b
   unfolding messageBuffer
   whole =
       let e : length packet ≡ sizeOf l (length body) = length-packet l (kindOf w) body in

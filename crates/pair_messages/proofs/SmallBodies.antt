@@ -22,7 +22,7 @@ use Rattle.message_out.specs.Outgoing.{bodyOf}
 use Rattle.message_out.specs.declared.Outgoing.{Outgoing}
 use Rattle.message_out.specs.declared.Outgoing.the-variants.{Invoke, Cancel, ClientFin, Payload, Error, ServerFin, Unknown}
 use Rattle.pair.proofs.SumLaws.{small-append, small-bytes}
-use Rattle.pair.proofs.Opening.{small-zeros}
+use Rattle.pair.proofs.NoncePasses.{small-zeros}
 
 small-none : Small []
 small-none i = lit< tt

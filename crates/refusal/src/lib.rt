@@ -71,3 +71,6 @@ pub const EVENT_UNKNOWN_OR_CUT: u8 = 35;
 
 // Keys of links.
 pub const UNSUITABLE_KEY: u8 = 36;
+
+// The cipher.
+pub const NOT_WHOLE_BLOCKS: u8 = 37;

@@ -6,6 +6,7 @@ use keep_alive_out::pong_step;
 use link_state::Link;
 use link_state::Moment;
 use message_out::message_step;
+use nonce_out::Drawn;
 use nonce_out::nonce_step;
 use send_rules::Step;
 ghost use mathlib.Core.Path.{_≡_};
@@ -18,14 +19,14 @@ pub fn send_step(
     buf: &mut [u8],
     what: ToSend,
     payload: &[u8],
-    random: [u8; 16],
+    drawn: Drawn,
     moment: Moment,
 ) -> Step
-    ensures { λ r. ⌜ (r ≡ sendOf link what (now (payload .entry)) random moment (length (now (buf .entry))))
-        × (now (buf .exit) ≡ sendBuffer link what (now (payload .entry)) random moment (now (buf .entry))) ⌝ }
+    ensures { λ r. ⌜ (r ≡ sendOf link what (now (payload .entry)) drawn moment (length (now (buf .entry))))
+        × (now (buf .exit) ≡ sendBuffer link what (now (payload .entry)) drawn moment (now (buf .entry))) ⌝ }
 {
     match what {
-        ToSend::Nonce => nonce_step(link, buf, random, moment),
+        ToSend::Nonce => nonce_step(link, buf, drawn, moment),
         ToSend::Handshake { sender, peer } => handshake_step(link, buf, sender, peer),
         ToSend::Ping(id) => ping_step(link, buf, id),
         ToSend::Pong => pong_step(link, buf),

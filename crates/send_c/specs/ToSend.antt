@@ -12,6 +12,7 @@ use Rattle.message_out.specs.declared.Outgoing.{Outgoing}
 use Rattle.message_out.specs.declared.Outgoing.the-variants as O
 use Rattle.send.specs.declared.ToSend.{ToSend}
 use Rattle.send.specs.declared.ToSend.the-variants.{Nonce, Handshake, Ping, Pong, Message}
+use Rattle.nonce_out.specs.declared.Drawn.{Drawn}
 use Rattle.send_c.specs.declared.RelayOutgoing.{RelayOutgoing}
 
 -- the actor, if one is given
@@ -38,7 +39,7 @@ messageOf w =
     []
     ) (O.Unknown (w .kind))
 
--- a packet of the link itself, by the table of "Opening", or else a message; the random bytes of a Nonce go beside it
+-- a packet of the link itself, by the table of "Opening", or else a message; what was drawn for a Nonce goes beside it
 unfoldable pub toSendOf : RelayOutgoing → ToSend
 toSendOf w =
     first (
@@ -48,3 +49,7 @@ toSendOf w =
     (eqb (w .kind) 0x8430eaa7, Pong) ∷
     []
     ) (Message (messageOf w))
+
+-- what was drawn for a Nonce: "16 random bytes given by the caller", and the card's point (document 02, A9)
+abbrev pub drawnOf : RelayOutgoing → Drawn
+drawnOf w = record { random = w .random; point = w .point }

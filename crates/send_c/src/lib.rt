@@ -10,9 +10,9 @@ use link_state::Link;
 use opening::NetPid;
 pub use sending::relay_send;
 
-// What to send. kind is the packet's type. A Nonce has random; a Handshake sender and peer; a Ping id; an invoke number,
-// tl2, actor if hasactor, timeout in ms if hastimeout; a cancel number; a result number, and code if error says that it is
-// an error and not a payload. Fields that the type does not use are ignored; a type that is never sent is refused.
+// What to send. kind is the packet's type. A Nonce has random and point; a Handshake sender and peer; a Ping id; an
+// invoke number, tl2, actor if hasactor, timeout in ms if hastimeout; a cancel number; a result number, and code if error
+// says that it is an error and not a payload. Fields that the type does not use are ignored; a type that is never sent is refused.
 #[repr(C)]
 pub struct RelayOutgoing {
     pub kind: u32,
@@ -28,6 +28,7 @@ pub struct RelayOutgoing {
     pub random: [u8; 16],
     pub sender: NetPid,
     pub peer: NetPid,
+    pub point: [u8; 32],
 }
 
 // How many bytes the packet takes at the front of the buffer; or, where refusal is not 0, the refusal's number, and then

@@ -32,6 +32,7 @@ sentOf l kind id n =
       phase = phaseAfter l n;
       awaits = awaitsSent l kind;
       owes = owesSent l kind;
+      ciphered = l .ciphered;
       keyid = l .keyid;
       sends = (l .sends + 1) % 2 ^ 32;
       gets = l .gets;

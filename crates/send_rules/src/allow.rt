@@ -75,6 +75,7 @@ pub fn sent(link: Link, kind: u32, id: u64, n: usize) -> Link
         phase: phase_after(link, n),
         awaits: awaits_sent(link, kind),
         owes: owes_sent(link, kind),
+        ciphered: link.ciphered,
         keyid: link.keyid,
         sends: std::num::wrapping_add_u32(link.sends, 1),
         gets: link.gets,

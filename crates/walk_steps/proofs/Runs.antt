@@ -13,8 +13,9 @@ use Rattle.wire.specs.Bytes.{part}
 use Rattle.inflight.specs.Tables.{freshOf}
 use Rattle.walk_claims.specs.ProgramText.{Fed, fedFirst, feed, Piece, feedAll, finish, joined, modelText, over}
 use Rattle.walk_claims.proofs.ProgramText.{program-texts}
-use Rattle.walk_steps.specs.declared.Progress.{Progress}
-use Rattle.walk_steps.specs.Step.{one, startOf, heldOf, fedOf, lastOf, Stepped}
+use Rattle.walk_progress.specs.declared.Progress.{Progress}
+use Rattle.walk_progress.specs.Start.{one, startOf}
+use Rattle.walk_steps.specs.Step.{heldOf, fedOf, lastOf, Stepped}
 use Rattle.walk_steps.specs.Runs.{Run, pieceOf, Runs}
 
 -- ---- one piece, or one call without a piece, more

@@ -13,7 +13,7 @@ use Rattle.walk.specs.Walk.{Outcome, walkOf, Told}
 use Rattle.walk.specs.declared.Walked.{Walked}
 use Rattle.walk_claims.specs.ProgramText.{Fed, feed}
 use Rattle.walk_claims.proofs.Bounds.{bounds}
-use Rattle.walk_steps.specs.declared.Progress.{Progress}
+use Rattle.walk_progress.specs.declared.Progress.{Progress}
 use Rattle.walk_steps.specs.Step.{FilledUnless, heldOf, fedOf, lastOf, Stepped}
 use Rattle.walk_steps.proofs.MoveLaws.{part-cut}
 

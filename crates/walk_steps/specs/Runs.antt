@@ -8,8 +8,9 @@ use lib.ListN.{length, take}
 use Rattle.wire.specs.Bytes.{part}
 use Rattle.inflight.specs.Tables.{freshOf}
 use Rattle.walk_claims.specs.ProgramText.{Fed, fedFirst, Piece, feedAll, finish, joined, modelText}
-use Rattle.walk_steps.specs.declared.Progress.{Progress}
-use Rattle.walk_steps.specs.Step.{one, startOf, heldOf, Stepped}
+use Rattle.walk_progress.specs.declared.Progress.{Progress}
+use Rattle.walk_progress.specs.Start.{one, startOf}
+use Rattle.walk_steps.specs.Step.{heldOf, Stepped}
 
 -- p and the events' buffer are what some pieces, and after the end some calls with no more bytes, led to; `text` is their text
 pub record Run (p : Progress) (events : List ℕ) (text : List ℕ) : Type 0 where

@@ -5,24 +5,11 @@ use Prim.Native.Nat.{ℕ, _+_, _≤_, min}
 use mathlib.Core.Bool.{Bool, true, false, not, _&&_, _||_}
 use mathlib.Core.List.{List, []}
 use lib.Dec.{eqb, ltb}
-use lib.IntN.{pos}
 use lib.ListN.{length, take}
 use lib.Seq.{sets}
 use Rattle.wire.specs.Bytes.{part}
-use Rattle.inflight.specs.Tables.{freshOf}
-use Rattle.inflight.specs.declared.PublisherNumber.{PublisherNumber}
 use Rattle.walk_claims.specs.ProgramText.{Fed, feed}
-use Rattle.walk_steps.specs.declared.Progress.{Progress}
-
--- ---- the start
-
--- "The table starts at 1"
-abbrev pub one : PublisherNumber
-one = record { 0 = pos 1 }
-
--- the table fresh from 1, nothing waiting, the events not ended, and a step to come
-unfoldable pub startOf : Progress
-startOf = record { table = freshOf one .table; have = 0; ended = false; more = true }
+use Rattle.walk_progress.specs.declared.Progress.{Progress}
 
 -- ---- a read
 

@@ -1,57 +1,13 @@
 // One step of the walk, and the loop of steps.
-use crate::Progress;
 use crate::moves::fill;
 use crate::moves::least;
 use crate::moves::move_front;
-use inflight::PublisherNumber;
 use libc::STDOUT_FILENO;
-ghost use mathlib.Core.Path.{_≡_};
-ghost use mathlib.Core.Bool.{not, _&&_, _||_};
-ghost use lib.Dec.{eqb, ltb};
-ghost use Rattle.walk_steps.specs.Step.{startOf, Stepped};
-
-// The table fresh from 1, nothing waiting, and more to come.
-pub fn start() -> Progress
-    ensures { λ r. ⌜ r ≡ startOf ⌝ }
-{
-    let fresh = inflight::fresh(PublisherNumber(1));
-    let table = fresh.table;
-    Progress {
-        table,
-        have: 0,
-        ended: false,
-        more: true,
-    }
-}
-
-// Whether the events have ended: they had, or a read brought nothing. A read that had no room tells nothing.
-fn no_more(ended: bool, have: usize, room: usize, count: usize) -> bool
-    ensures { λ r. ⌜ r ≡ (ended || (ltb have room && eqb count 0)) ⌝ }
-{
-    if ended {
-        return true;
-    }
-    if have < room {
-        return count == 0;
-    }
-    false
-}
-
-// Whether there is a next step: not after a write that failed, nor once the walk stopped, nor once all is consumed.
-fn goes_on(written: bool, stopped: bool, last: bool, left: usize) -> bool
-    ensures { λ r. ⌜ r ≡ (written && not (stopped || (last && eqb left 0))) ⌝ }
-{
-    if !written {
-        return false;
-    }
-    if stopped {
-        return false;
-    }
-    if last {
-        return left != 0;
-    }
-    true
-}
+use walk_progress::Progress;
+use walk_progress::goes_on;
+use walk_progress::no_more;
+use walk_progress::start;
+ghost use Rattle.walk_steps.specs.Step.{Stepped};
 
 // One read, one walk, one write; what was not consumed moves to the front. A write that fails is the last, so that
 // nothing is printed past a gap.

@@ -1,16 +1,19 @@
-//! One connection of the relay: its link, and what was received of a packet.
+//! One connection of the relay: its session, and what the relay knows of it.
 
 use crate::event::{Opening, Peer};
-use relay::{Link, Refusal, Settings, Side};
-
-/// A longer buffer is not kept once its packets are handled.
-const BUFFER_KEPT: usize = 65_536;
+use crate::settings::LinkSettings;
+use relay::{NetPid, Refusal, Session, Side};
 
 pub struct Connection {
-    pub link: Link,
-    /// Bytes that no packet has used yet.
-    pub input: Vec<u8>,
-    pub opening: Opening,
+    /// Clear and ciphered ones are the same here.
+    pub session: Session,
+    /// For our Nonce.
+    pub random: [u8; 16],
+    /// For our Handshake.
+    pub own: NetPid,
+    pub peer: NetPid,
+    /// The other side's Handshake came.
+    pub is_handshaken: bool,
     /// A fin came: no new request goes over it.
     pub fin: bool,
     /// How many requests are in flight with a publisher, so that its last
@@ -21,28 +24,27 @@ pub struct Connection {
 }
 
 impl Connection {
-    pub fn new(settings: Settings, opening: Opening) -> Result<Connection, Refusal> {
+    pub fn new(settings: &LinkSettings, opening: Opening) -> Result<Connection, Refusal> {
+        let Opening {
+            random,
+            own,
+            peer,
+            card,
+        } = opening;
         Ok(Connection {
-            link: Link::new(settings)?,
-            input: Vec::new(),
-            opening,
+            session: settings.session(card, own, peer)?,
+            random,
+            own,
+            peer,
+            is_handshaken: false,
             fin: false,
             in_flight: 0,
             heard: false,
         })
     }
 
-    /// What is left of the input when packets have used the first bytes of it.
-    pub fn keep(&mut self, mut input: Vec<u8>, used: usize) {
-        if used > 0 {
-            input.drain(..used);
-            input.shrink_to(BUFFER_KEPT);
-        }
-        self.input = input;
-    }
-
     pub fn takes_requests(&self) -> bool {
-        self.link.is_open() && !self.fin
+        self.session.is_open() && !self.fin
     }
 
     /// After a publisher's fin: its last answer came.
@@ -56,28 +58,5 @@ pub fn side_towards(peer: Peer) -> Side {
     match peer {
         Peer::Front(_) => Side::Server,
         Peer::Publisher(_) => Side::Client,
-    }
-}
-
-#[cfg(test)]
-mod tests {
-    use super::*;
-    use crate::settings;
-    use relay::NetPid;
-
-    #[test]
-    fn a_long_buffer_is_kept_only_while_a_packet_needs_it() {
-        let opening = Opening {
-            random: [0; 16],
-            own: NetPid::default(),
-            peer: NetPid::default(),
-        };
-        let mut connection = Connection::new(settings::FRONT, opening).unwrap();
-        let long = 16 * BUFFER_KEPT;
-        for (used, left, most) in [(0, long, usize::MAX), (long - 3, 3, BUFFER_KEPT)] {
-            connection.keep(vec![1; long], used);
-            assert_eq!(connection.input, vec![1; left]);
-            assert!(connection.input.capacity() <= most);
-        }
     }
 }

@@ -2,30 +2,28 @@
 //! and what is to be done comes back as actions. Here: which packet is for whom.
 //! `opening` and `keep_alive` have what is a connection's own, `forward` the
 //! way of requests and answers, `unreadable` what becomes of those that cannot
-//! be read, `flush` what ends the output of an event.
+//! be read, `output` what is handed over at the end of an event.
 
 use crate::connection::{side_towards, Connection};
 use crate::counts::Counts;
 use crate::event::{Action, Event, Peer};
+use crate::settings::LinkSettings;
 use relay::packet_type::{HANDSHAKE, NONCE, PING, PONG};
 use relay::{
-    read_message, Answer, Arrival, Message, Moment, PublisherNumber, Refusal, Settings, Table,
-    ToSend, LINKS, PUBLISHERS,
+    read_message, Fault, Message, Moment, PublisherNumber, Refusal, Table, ToSend, LINKS,
+    PUBLISHERS,
 };
-
-/// More than any packet has besides its payload or text.
-const AROUND_PAYLOAD: usize = 128;
 
 pub struct Core {
     pub(crate) table: Table,
     fronts: [Option<Connection>; LINKS as usize],
     publishers: [Option<Connection>; PUBLISHERS as usize],
     /// Of the links to the front ends, and of those to the publishers.
-    front_settings: Settings,
-    publisher_settings: [Settings; PUBLISHERS as usize],
+    front_settings: LinkSettings,
+    publisher_settings: [LinkSettings; PUBLISHERS as usize],
     pub(crate) actions: Vec<Action>,
-    /// Whom the event has sent packets that are not flushed yet.
-    pub(crate) unflushed: Vec<Peer>,
+    /// Whom the event has sent packets that are not handed over yet.
+    pub(crate) unwritten: Vec<Peer>,
     pub(crate) counts: Counts,
     moment: Moment,
     /// The ID of our next Ping.
@@ -35,7 +33,7 @@ pub struct Core {
 impl Core {
     /// With the settings of the links to all front ends, and of those to the
     /// publishers.
-    pub fn new(front: Settings, publishers: [Settings; PUBLISHERS as usize]) -> Core {
+    pub fn new(front: LinkSettings, publishers: [LinkSettings; PUBLISHERS as usize]) -> Core {
         Core {
             // Every number from 1 on is accepted here.
             table: Table::new(PublisherNumber(1)).expect("1 is a first number"),
@@ -44,11 +42,17 @@ impl Core {
             front_settings: front,
             publisher_settings: publishers,
             actions: Vec::new(),
-            unflushed: Vec::new(),
+            unwritten: Vec::new(),
             counts: Counts::default(),
             moment: Moment { time: 0 },
             next_ping: 1,
         }
+    }
+
+    /// Whether a connection to the peer needs a card.
+    pub fn may_cipher(&self, peer: Peer) -> bool {
+        let settings = self.settings(peer);
+        settings.is_some_and(|settings| settings.key.is_some())
     }
 
     pub fn counts(&self) -> &Counts {
@@ -67,7 +71,7 @@ impl Core {
             Event::TurnedAway => self.counts.turned_away += 1,
             Event::Tick => self.tick(),
         }
-        self.flush_all();
+        self.hand_over_all();
         std::mem::take(&mut self.actions)
     }
 
@@ -79,13 +83,10 @@ impl Core {
     }
 
     /// Of the link to a peer; none if there is no such publisher.
-    pub(crate) fn settings(&self, peer: Peer) -> Option<Settings> {
+    pub(crate) fn settings(&self, peer: Peer) -> Option<&LinkSettings> {
         match peer {
-            Peer::Front(_) => Some(self.front_settings),
-            Peer::Publisher(publisher) => {
-                let settings = self.publisher_settings.get(usize::from(publisher));
-                settings.copied()
-            }
+            Peer::Front(_) => Some(&self.front_settings),
+            Peer::Publisher(publisher) => self.publisher_settings.get(usize::from(publisher)),
         }
     }
 
@@ -98,30 +99,22 @@ impl Core {
         let Some(connection) = self.connection(peer) else {
             return;
         };
-        let mut input = std::mem::take(&mut connection.input);
-        input.extend_from_slice(bytes);
-        let mut used = 0;
+        connection.session.feed(bytes);
         loop {
             let moment = self.moment;
             // Gone if a packet led to its end.
             let Some(connection) = self.connection(peer) else {
                 return;
             };
-            match connection.link.receive(&input[used..], moment) {
-                Arrival::Incomplete(_) => return connection.keep(input, used),
-                Arrival::Packet {
-                    kind,
-                    consumed,
-                    body,
-                } => {
+            match connection.session.next(moment) {
+                Ok(None) => return,
+                Ok(Some(packet)) => {
+                    // What it leads to may change or end its own connection.
+                    let (kind, body) = (packet.kind, packet.body.to_vec());
                     connection.heard = true;
-                    used += consumed;
-                    self.packet(peer, kind, body);
+                    self.packet(peer, kind, &body);
                 }
-                Arrival::Refused(refusal) => {
-                    self.counts.too_old += u64::from(refusal == Refusal::VERSION_TOO_OLD);
-                    return self.close(peer);
-                }
+                Err(fault) => return self.fault(peer, fault),
             }
         }
     }
@@ -152,22 +145,34 @@ impl Core {
     }
 
     /// Sends a packet, or says why it cannot be sent.
-    pub(crate) fn send(&mut self, peer: Peer, what: ToSend) -> Result<(), Refusal> {
+    pub(crate) fn send(&mut self, peer: Peer, what: ToSend) -> Result<(), Fault> {
         let moment = self.moment;
         let connection = self.connection(peer).ok_or(Refusal::LINK_CLOSED)?;
-        let mut packet = vec![0; payload_of(&what).len() + AROUND_PAYLOAD];
-        let size = connection.link.send(&mut packet, what, moment)?;
-        packet.truncate(size);
-        self.actions.push(Action::Send(peer, packet));
-        self.flush_later(peer);
+        connection.session.send(what, moment)?;
+        self.hand_over_later(peer);
         Ok(())
+    }
+
+    /// The same of a message: the card is asked for a Nonce alone.
+    pub(crate) fn send_message(&mut self, peer: Peer, message: Message) -> Result<(), Refusal> {
+        let sent = self.send(peer, ToSend::Message(message));
+        sent.map_err(|fault| match fault {
+            Fault::Refused(refusal) => refusal,
+            Fault::Card => Refusal::LINK_CLOSED,
+        })
     }
 
     /// For packets that a link in order never refuses.
     pub(crate) fn send_or_close(&mut self, peer: Peer, what: ToSend) {
-        if self.send(peer, what).is_err() {
-            self.close(peer);
+        if let Err(fault) = self.send(peer, what) {
+            self.fault(peer, fault);
         }
+    }
+
+    /// What cannot be received or sent ends the connection.
+    fn fault(&mut self, peer: Peer, fault: Fault) {
+        self.count(peer, fault);
+        self.close(peer);
     }
 
     /// It can be sent nothing more, so all that it asked or was asked ends now.
@@ -180,7 +185,7 @@ impl Core {
     pub(crate) fn close(&mut self, peer: Peer) {
         if self.connection(peer).is_some() {
             self.counts.dropped += 1;
-            self.flush(peer);
+            self.hand_over(peer);
             self.actions.push(Action::Close(peer));
             self.gone(peer);
         }
@@ -194,16 +199,5 @@ impl Core {
                 Peer::Publisher(publisher) => self.publisher_lost(publisher),
             }
         }
-    }
-}
-
-fn payload_of<'a>(what: &ToSend<'a>) -> &'a [u8] {
-    match what {
-        ToSend::Message(Message::Invoke(invoke)) => invoke.payload,
-        ToSend::Message(Message::Result { answer, .. }) => match answer {
-            Answer::Payload(payload) => payload,
-            Answer::Error { text, .. } => text,
-        },
-        _ => &[],
     }
 }

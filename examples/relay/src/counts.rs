@@ -35,6 +35,13 @@ pub struct Counts {
     pub dropped: u64,
     /// Those of them whose Nonce had a version below the lowest (24).
     pub too_old: u64,
+    /// Those of them whose Nonce named an encryption that the link does not take,
+    /// or another key (9).
+    pub not_agreed: u64,
+    /// Those of them whose ciphered Handshake could not be read.
+    pub other_keys: u64,
+    /// Those of them whose point the card refused.
+    pub bad_points: u64,
     /// Those of them that did not open in time.
     pub unopened: u64,
     /// Those of them whose peer did not read what waited for it.
@@ -77,6 +84,9 @@ impl fmt::Display for Counts {
             ("pongs", self.pongs),
             ("dropped", self.dropped),
             ("too_old", self.too_old),
+            ("not_agreed", self.not_agreed),
+            ("other_keys", self.other_keys),
+            ("bad_points", self.bad_points),
             ("unopened", self.unopened),
             ("slow", self.slow),
             ("turned_away", self.turned_away),

@@ -1,6 +1,7 @@
 //! What the core is told, and what it wants done.
 
-use relay::NetPid;
+use relay::{Card, NetPid};
+use std::fmt;
 
 /// The other end of a connection.
 #[derive(Clone, Copy, Debug, PartialEq, Eq, Hash)]
@@ -12,13 +13,14 @@ pub enum Peer {
 }
 
 /// What a new connection needs for its opening.
-#[derive(Clone, Copy)]
 pub struct Opening {
     /// For our Nonce.
     pub random: [u8; 16],
     /// For our Handshake: who we are, and who they are.
     pub own: NetPid,
     pub peer: NetPid,
+    /// For a link that may cipher: with a key pair of this connection alone.
+    pub card: Option<Box<dyn Card + Send>>,
 }
 
 pub enum Event<'a> {
@@ -39,10 +41,40 @@ pub enum Event<'a> {
 
 #[derive(Debug, PartialEq, Eq)]
 pub enum Action {
-    /// A packet; on a padded link with the words of a flush behind it, if it is
-    /// the last one for its peer.
+    /// Packets, as they go over the connection: on a padded link with the words
+    /// of a flush behind them, and on a ciphered one enciphered.
     Send(Peer, Vec<u8>),
     /// Everything sent before goes out, if the peer takes it in time, then the
     /// connection ends. No event `Closed` need follow.
     Close(Peer),
+    /// To be printed.
+    Warn(Peer, Warning),
+}
+
+/// What an operator has to know, and cannot guess from a connection that ends.
+#[derive(Clone, Copy, Debug, PartialEq, Eq)]
+pub enum Warning {
+    OtherKeys,
+    BadPoint,
+}
+
+impl fmt::Display for Warning {
+    fn fmt(&self, f: &mut fmt::Formatter) -> fmt::Result {
+        f.write_str(match self {
+            Warning::OtherKeys => {
+                "its Handshake cannot be read: most likely the two ends have keys that begin \
+                 with the same four bytes and differ behind them"
+            }
+            Warning::BadPoint => "its Nonce has a point that shares no secret",
+        })
+    }
+}
+
+impl fmt::Display for Peer {
+    fn fmt(&self, f: &mut fmt::Formatter) -> fmt::Result {
+        match self {
+            Peer::Front(link) => write!(f, "front end {link}"),
+            Peer::Publisher(publisher) => write!(f, "publisher {publisher}"),
+        }
+    }
 }

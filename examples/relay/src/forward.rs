@@ -64,7 +64,7 @@ impl Core {
             Some(connection) if connection.takes_requests() => {}
             _ => return Err(Refusal::LINK_CLOSED),
         }
-        self.send(peer, ToSend::Message(request))?;
+        self.send_message(peer, request)?;
         if let Some(connection) = self.connection(peer) {
             connection.in_flight += 1;
         }
@@ -157,7 +157,7 @@ impl Core {
     fn result(&mut self, link: u8, front: FrontNumber, answer: Answer) -> Result<(), Refusal> {
         let number = front.0;
         let result = Message::Result { number, answer };
-        self.send(Peer::Front(link), ToSend::Message(result))
+        self.send_message(Peer::Front(link), result)
     }
 
     /// An error of our own; its code is the refusal's number.

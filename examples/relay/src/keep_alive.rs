@@ -12,7 +12,8 @@ impl Core {
         for peer in fronts.chain((0..PUBLISHERS).map(Peer::Publisher)) {
             let id = self.next_ping;
             let connection = self.connection(peer);
-            let Some(connection) = connection.filter(|connection| connection.link.is_open()) else {
+            let Some(connection) = connection.filter(|connection| connection.session.is_open())
+            else {
                 continue;
             };
             let heard = std::mem::replace(&mut connection.heard, false);

@@ -3,10 +3,13 @@
 //! the times between two attempts to reach a publisher, of the keep-alive, and
 //! from a connection's start until its link must be open; with `--padded-fronts`
 //! the links to all front ends are padded. A publisher is its address, or for
-//! instance `10.0.0.7:2001,lowest=2,padded=yes`: the lowest version that its Nonce
-//! may have, 0 to 2, and 0 if not said; and whether the link to it is padded. It
-//! prints the address on which it listens, and the counts for each line on
-//! standard input.
+//! instance `10.0.0.7:2001,lowest=2,cipher=only,key=/etc/relay/key`: the lowest
+//! version that its Nonce may have, whether the link to it is padded, and whether
+//! it goes through the cipher, with the file of its key. `--fronts-cipher` and
+//! `--fronts-key` say the same of the front ends, and `--card` where the points of
+//! ciphered links come from; without one no link may cipher. It prints the address
+//! on which it listens, the counts for each line on standard input, and on standard
+//! error what an operator has to know of keys that do not fit.
 
 use relay_example::arguments;
 use relay_example::network::serve;

@@ -2,14 +2,15 @@
 
 use crate::connection::{side_towards, Connection};
 use crate::core::Core;
-use crate::event::{Action, Opening, Peer};
+use crate::event::{Action, Opening, Peer, Warning};
 use relay::packet_type::NONCE;
-use relay::{Side, ToSend};
+use relay::{Fault, Refusal, Side, ToSend};
 
 impl Core {
     /// As client we begin the opening.
     pub(crate) fn connected(&mut self, peer: Peer, opening: Opening) {
         self.gone(peer);
+        let random = opening.random;
         let settings = self.settings(peer);
         let connection = settings.and_then(|settings| Connection::new(settings, opening).ok());
         match (connection, self.slot(peer)) {
@@ -20,7 +21,7 @@ impl Core {
             }
         }
         if side_towards(peer) == Side::Client {
-            self.send_or_close(peer, nonce(opening));
+            self.send_or_close(peer, ToSend::Nonce { random });
         }
     }
 
@@ -29,32 +30,48 @@ impl Core {
         let Some(connection) = self.connection(peer) else {
             return;
         };
-        let opening = connection.opening;
+        let nonce = ToSend::Nonce {
+            random: connection.random,
+        };
+        let handshake = ToSend::Handshake {
+            sender: connection.own,
+            peer: connection.peer,
+        };
+        connection.is_handshaken = kind != NONCE;
         match (side_towards(peer), kind) {
-            (Side::Server, NONCE) => self.send_or_close(peer, nonce(opening)),
-            (Side::Server, _) | (Side::Client, NONCE) => {
-                let handshake = ToSend::Handshake {
-                    sender: opening.own,
-                    peer: opening.peer,
-                };
-                self.send_or_close(peer, handshake);
-            }
+            (Side::Server, NONCE) => self.send_or_close(peer, nonce),
+            (Side::Server, _) | (Side::Client, NONCE) => self.send_or_close(peer, handshake),
             (Side::Client, _) => {}
+        }
+    }
+
+    /// Counts why a connection ends, where operations have to know.
+    pub(crate) fn count(&mut self, peer: Peer, fault: Fault) {
+        let has_other_keys = self.connection(peer).is_some_and(|connection| {
+            // The first that went through the cipher cannot be read.
+            connection.session.is_ciphered() && !connection.is_handshaken
+        });
+        match fault {
+            Fault::Refused(Refusal::VERSION_TOO_OLD) => self.counts.too_old += 1,
+            Fault::Refused(Refusal::ENCRYPTION) => self.counts.not_agreed += 1,
+            Fault::Refused(_) if has_other_keys => {
+                self.counts.other_keys += 1;
+                self.actions.push(Action::Warn(peer, Warning::OtherKeys));
+            }
+            Fault::Refused(_) => {}
+            Fault::Card => {
+                self.counts.bad_points += 1;
+                self.actions.push(Action::Warn(peer, Warning::BadPoint));
+            }
         }
     }
 
     /// Whatever came of it: a link that is not open by now is not waited for.
     pub(crate) fn opening_over(&mut self, peer: Peer) {
         let connection = self.connection(peer);
-        if connection.is_some_and(|connection| !connection.link.is_open()) {
+        if connection.is_some_and(|connection| !connection.session.is_open()) {
             self.counts.unopened += 1;
             self.close(peer);
         }
-    }
-}
-
-fn nonce(opening: Opening) -> ToSend<'static> {
-    ToSend::Nonce {
-        random: opening.random,
     }
 }

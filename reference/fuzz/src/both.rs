@@ -3,12 +3,12 @@
 
 use crate::compare::{same, Compared, Difference};
 use crate::counts::Counts;
-use crate::draw::SetUp;
 use crate::messages;
 use crate::netpids::{self, netpid};
 use crate::nonces;
+use crate::pairs::SetUp;
 use crate::states::{self, our_settings};
-use reference::link::{packet, Link, Outgoing, Received, State};
+use reference::link::{packet, Cipher, Link, Outgoing, Received, State};
 use reference::message::{Message, Outcome, Side, Span};
 use reference::refusal::Refusal;
 use relay::raw;
@@ -19,7 +19,8 @@ pub struct End {
     pub side: Side,
     pub ours: relay::Link,
     pub second: Link,
-    /// What our link keeps of its key.
+    /// What our link keeps of its set-up, whatever it is called with.
+    set: raw::Settings,
     key_id: [u8; 4],
 }
 
@@ -45,28 +46,55 @@ pub fn our_side(side: Side) -> relay::Side {
 }
 
 impl End {
-    /// For a set-up that is not refused. The second program's link never has a
-    /// key: nothing that goes over the wire may differ by one.
-    fn new(SetUp { settings, key }: SetUp) -> End {
+    /// For a set-up that is not refused. The second program's link has no key
+    /// if it goes clear only: nothing on the wire may differ by one then.
+    pub fn new(set_up: SetUp) -> End {
+        let SetUp { settings, key, .. } = set_up;
         let ours = match key {
             Some(key) => relay::Link::with_key(our_settings(settings), &key),
             None => relay::Link::new(our_settings(settings)),
         };
+        let second = match key {
+            Some(key) if settings.cipher != Cipher::ClearOnly => {
+                Link::set_up_with_key(settings, &key)
+            }
+            _ => Link::set_up(settings),
+        };
+        let mut ours = ours.expect("a link of ours");
+        // The wrapper says it only with the cipher.
+        ours.raw().set.only |= settings.cipher == Cipher::ClearOnly && set_up.only;
         End {
             side: settings.side,
-            ours: ours.expect("a link of ours"),
-            second: Link::set_up(settings).expect("a link of the second program"),
+            set: ours.raw().set,
+            ours,
+            second: second.expect("a link of the second program"),
             key_id: key.map_or([0; 4], |[a, b, c, d, ..]| [a, b, c, d]),
         }
     }
 
     pub fn same_state(&mut self, call: impl FnOnce() -> String) -> Compared {
-        let ours = states::ours(self.ours.raw());
+        let ours = self.ours.raw();
+        let ours = (states::ours(ours), ours.set);
         let second = State {
             key_id: self.key_id,
             ..states::second(self.second.state())
         };
-        same("a link's state", call, ours, second)
+        same("a link's state", call, ours, (second, self.set))
+    }
+
+    /// By its settings or because the cipher was chosen.
+    pub fn is_padded(&self) -> bool {
+        let state = self.second.state();
+        state.settings.padded || state.ciphered
+    }
+
+    /// Whether a Nonce of ours would offer or take the cipher.
+    pub fn shows_key(&self) -> bool {
+        let state = self.second.state();
+        match self.side {
+            Side::Client => state.settings.cipher != Cipher::ClearOnly,
+            Side::Server => state.ciphered,
+        }
     }
 
     /// Lends the bytes to both.
@@ -93,7 +121,11 @@ impl End {
                 ..
             }) => {
                 match packet_type {
-                    packet::NONCE => nonces::compare(body.of(bytes), counts)?,
+                    packet::NONCE => {
+                        let ciphered = self.second.state().ciphered;
+                        counts.add("choice", Ok(if ciphered { "cipher" } else { "clear" }));
+                        nonces::compare(body.of(bytes), counts)?
+                    }
                     packet::HANDSHAKE => netpids::compare(body.of(bytes))?,
                     _ => {}
                 }
@@ -243,7 +275,8 @@ pub fn raw_sent(answer: Result<usize, Refusal>) -> raw::Sent {
 /// The same for our library; the time goes apart.
 pub fn to_send<'a>(what: &Outgoing<'a>) -> ToSend<'a> {
     match *what {
-        Outgoing::Nonce(_, random) => ToSend::Nonce { random },
+        Outgoing::Nonce(_, random, point) if point == [0; 32] => ToSend::Nonce { random },
+        Outgoing::Nonce(_, random, point) => ToSend::NonceWithPoint { random, point },
         Outgoing::Handshake(own, peer) => ToSend::Handshake {
             sender: netpid(own),
             peer: netpid(peer),
@@ -278,43 +311,4 @@ fn to_message(message: Message<&[u8]>) -> relay::Message<'_> {
 
 fn shown(what: &Outgoing) -> String {
     format!("{:02x?}", to_send(what))
-}
-
-/// Two ends of one connection before its opening.
-pub fn pair(set_ups: [SetUp; 2], counts: &mut Counts) -> [End; 2] {
-    let word = match set_ups.map(|of_end| of_end.settings.padded) {
-        [true, true] => "padded",
-        [false, false] => "unpadded",
-        _ => "one end padded",
-    };
-    counts.add("pair", Ok(word));
-    let word = match set_ups.map(|of_end| of_end.key.is_some()) {
-        [true, true] => "both ends",
-        [false, false] => "none",
-        _ => "one end",
-    };
-    counts.add("pair's keys", Ok(word));
-    set_ups.map(End::new)
-}
-
-/// Two ends of one connection that have opened as far as `stage`.
-pub fn opened(
-    set_ups: [SetUp; 2],
-    stage: usize,
-    counts: &mut Counts,
-) -> Result<[End; 2], Difference> {
-    let mut ends = pair(set_ups, counts);
-    let time = 1_700_000_000;
-    let nonce = Outgoing::Nonce(time, [7; 16]);
-    let handshake = Outgoing::Handshake([1; 12], [2; 12]);
-    for (i, what) in [nonce, nonce, handshake, handshake]
-        .iter()
-        .enumerate()
-        .take(stage)
-    {
-        let sent = ends[i % 2].send(what, time, 100, 0, counts)?;
-        let packet = sent.expect("the opening goes through");
-        ends[1 - i % 2].receive(&packet, time, counts)?;
-    }
-    Ok(ends)
 }

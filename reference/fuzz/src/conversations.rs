@@ -1,13 +1,14 @@
 //! Whole conversations: two ends that talk to each other over streams cut at
 //! random places, and one end against packets made by hand.
 
-use crate::both::{self, End, Taken};
+use crate::both::{End, Taken};
 use crate::compare::{Compared, Difference};
 use crate::counts::Counts;
 use crate::draw::{self, coin, one_in};
 use crate::flushes;
 use crate::packets;
 use crate::padding;
+use crate::pairs;
 use reference::generator::Generator;
 use reference::link::{packet, Outgoing};
 
@@ -42,7 +43,7 @@ fn base_time(g: &mut Generator) -> u32 {
 
 impl Pair {
     fn new(g: &mut Generator, counts: &mut Counts) -> Pair {
-        let ends = both::pair(draw::set_ups(g), counts);
+        let ends = pairs::pair(pairs::any(g), counts);
         let time = base_time(g);
         let skew = g.pick(&[0, 0, 1, 7, 29, 30, 30, 31]);
         let times = [time, time.wrapping_add(skew)];
@@ -172,9 +173,9 @@ fn narrow_room(g: &mut Generator, end: &End, what: &Outgoing) -> usize {
 
 /// One end, whose sends and flushes go nowhere, and packets made for it.
 fn against_a_stranger(g: &mut Generator, counts: &mut Counts) -> Compared {
-    let set_ups = draw::set_ups(g);
+    let set_ups = pairs::meeting(g);
     let stage = g.pick(&[0, 0, 0, 1, 2, 3, 4, 4, 4, 4]);
-    let ends = both::opened(set_ups, stage, counts)?;
+    let ends = pairs::opened(set_ups, stage, counts)?;
     let mut end = ends[g.below(2) as usize].clone();
     let time = base_time(g);
     let mut left = 5 + g.below(40);

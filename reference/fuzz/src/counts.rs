@@ -13,12 +13,14 @@ enum Answer {
 pub struct Counts(BTreeMap<(&'static str, Answer), u64>);
 
 /// The refusals that each call has; those of a link are in their order.
-const REFUSALS: [(&str, &[u8]); 14] = [
+const REFUSALS: [(&str, &[u8]); 16] = [
     ("read", &[19, 11, 12, 13, 14, 17, 18]),
-    ("set-up", &[30]),
+    ("set-up", &[36, 30]),
     ("set-up with a key", &[36, 30]),
     ("Nonce", &[7]),
     ("derive", &[36, 30, 16]),
+    ("encipher", &[37]),
+    ("decipher", &[37]),
     (
         "receive",
         &[20, 22, 26, 1, 3, 2, 4, 5, 6, 25, 7, 8, 24, 9, 10, 17, 21],

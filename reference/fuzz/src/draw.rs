@@ -1,8 +1,7 @@
-//! Random settings and parts of messages and packets, with a liking for the
-//! edges.
+//! Random parts of messages and packets, with a liking for the edges.
 
 use reference::generator::Generator;
-use reference::link::{Outgoing, Settings};
+use reference::link::{Cipher, Outgoing};
 use reference::message::values as v;
 use reference::message::{Invoke, Message, Outcome, Side};
 
@@ -34,34 +33,6 @@ pub fn up_to(g: &mut Generator, last: usize) -> usize {
 /// A room on either side of what is needed; zeros may be its last three bytes.
 pub fn near(g: &mut Generator, needed: usize) -> usize {
     needed + 1 - up_to(g, 5)
-}
-
-/// What an end is set up with.
-#[derive(Clone, Copy)]
-pub struct SetUp {
-    pub settings: Settings,
-    pub key: Option<[u8; 32]>,
-}
-
-/// Of a client and of a server, and refused by none; both are mostly padded, or
-/// both not. Some have a key.
-pub fn set_ups(g: &mut Generator) -> [SetUp; 2] {
-    let padded = coin(g);
-    [Side::Client, Side::Server].map(|side| SetUp {
-        settings: Settings {
-            lowest_version: g.pick(&[0, 1, 2]),
-            padded: padded != one_in(g, 20),
-            ..Settings::new(side, coin(g))
-        },
-        key: one_in(g, 3).then(|| link_key(g)),
-    })
-}
-
-/// Not with four zeros in front.
-fn link_key(g: &mut Generator) -> [u8; 32] {
-    let mut key = array(g);
-    key[g.below(4) as usize] |= 1;
-    key
 }
 
 /// All ten values that have a meaning at the front of a payload.
@@ -158,8 +129,14 @@ pub fn outgoing<'a>(g: &mut Generator, time: u32, message: &'a Message<Vec<u8>>)
     }
 }
 
+/// With zeros for a point now and then.
 pub fn nonce<'a>(g: &mut Generator, time: u32) -> Outgoing<'a> {
-    Outgoing::Nonce(time, array(g))
+    let point = if one_in(g, 4) { [0; 32] } else { array(g) };
+    Outgoing::Nonce(time, array(g), point)
+}
+
+pub fn cipher(g: &mut Generator) -> Cipher {
+    g.pick(&[Cipher::ClearOnly, Cipher::CipherOnly, Cipher::Either])
 }
 
 pub fn handshake<'a>(g: &mut Generator) -> Outgoing<'a> {

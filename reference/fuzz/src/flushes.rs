@@ -5,6 +5,7 @@ use crate::compare::{same, Compared, Difference};
 use crate::conversations::send_something;
 use crate::counts::Counts;
 use crate::draw::{self, one_in};
+use crate::pairs;
 use reference::generator::Generator;
 use relay::raw;
 
@@ -12,9 +13,9 @@ use relay::raw;
 const MOST: usize = 16;
 
 pub fn case(g: &mut Generator, counts: &mut Counts) -> Compared {
-    let set_ups = draw::set_ups(g);
+    let set_ups = pairs::meeting(g);
     let stage = g.pick(&[0, 1, 2, 3, 3, 4, 4, 4, 4, 4]);
-    let mut end = both::opened(set_ups, stage, counts)?[g.below(2) as usize].clone();
+    let mut end = pairs::opened(set_ups, stage, counts)?[g.below(2) as usize].clone();
     for _ in 0..g.below(4) {
         send_something(g, &mut end, 0, counts)?;
         if one_in(g, 3) {

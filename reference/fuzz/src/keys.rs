@@ -2,7 +2,7 @@
 //! lengths on either side of each line. The whole answer and the whole buffer
 //! are compared, refused or not.
 
-use crate::compare::{same, Compared};
+use crate::compare::{same, Compared, Difference};
 use crate::counts::Counts;
 use crate::draw;
 use reference::generator::Generator;
@@ -16,6 +16,9 @@ use relay::raw;
 /// vector.
 type Answer = (u8, usize, [u8; 32], [u8; 16]);
 
+/// In the init message of version 2.
+const LONGEST_AROUND_KEY: usize = 118;
+
 pub fn case(g: &mut Generator, counts: &mut Counts) -> Compared {
     let any = g.byte();
     let length = key_length(g);
@@ -28,7 +31,12 @@ pub fn case(g: &mut Generator, counts: &mut Counts) -> Compared {
         key: &key,
         shared: draw::array(g),
     };
-    let needed = length + if request.version == 2 { 118 } else { 86 };
+    let around = if request.version == 2 {
+        LONGEST_AROUND_KEY
+    } else {
+        86
+    };
+    let needed = length + around;
     let below = draw::up_to(g, needed);
     let beyond = needed + g.below(200) as usize;
     for room in [0, below, needed - 1, g.pick(&[needed, needed + 1, beyond])] {
@@ -70,6 +78,13 @@ fn compare(request: &Request, room: usize, filler: u8, counts: &mut Counts) -> C
     let call = || format!("derive, room {room}: {request:02x?}");
     same("a derivation", call, ours, of_second(second))?;
     same("its buffer", call, our_buffer, buffer)
+}
+
+/// Into a buffer that is large enough, for a request that is not refused.
+pub fn derived(request: &Request, counts: &mut Counts) -> Result<Keys, Difference> {
+    let room = request.key.len() + LONGEST_AROUND_KEY;
+    compare(request, room, 0, counts)?;
+    Ok(derive(request, &mut vec![0; room]).expect("keys"))
 }
 
 fn raw_derive(request: &Request, buffer: &mut [u8]) -> Answer {

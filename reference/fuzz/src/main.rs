@@ -6,8 +6,12 @@
 //! the seed, the case and both answers, and exits with 1. At the end it prints
 //! how often each answer was seen.
 
+mod agreements;
 mod both;
 mod checksums;
+mod choices;
+mod ciphered;
+mod ciphers;
 mod clocks;
 mod compare;
 mod conversations;
@@ -22,7 +26,10 @@ mod nonces;
 mod options;
 mod packets;
 mod padding;
+mod pairs;
+mod second_driver;
 mod sends;
+mod sessions;
 mod set_ups;
 mod states;
 mod tables;
@@ -95,11 +102,15 @@ fn one(seed: u64, case: u64, counts: &mut Counts) -> Compared {
         6 => nonces::case(g, counts),
         7..9 => digests::case(g, counts),
         9..12 => keys::case(g, counts),
-        12..32 => messages::case(g, counts),
-        32..35 => flushes::case(g, counts),
-        35..70 => conversations::case(g, counts),
-        70..80 => sends::case(g, counts),
-        80..85 => types::case(g, counts),
+        12..17 => ciphers::case(g, counts),
+        17 => ciphered::case(g, counts),
+        18..20 => sessions::case(g, counts),
+        20..22 => choices::case(g, counts),
+        22..33 => messages::case(g, counts),
+        33..36 => flushes::case(g, counts),
+        36..71 => conversations::case(g, counts),
+        71..81 => sends::case(g, counts),
+        81..86 => types::case(g, counts),
         _ => tables::case(g, counts),
     }
 }

@@ -7,7 +7,7 @@ use crate::padding;
 use reference::checksum::{CRC32, CRC32C};
 use reference::generator::Generator;
 use reference::link::packet::{self, HANDSHAKE, NONCE, PING, PONG};
-use reference::link::{handshake_body, nonce_body, State};
+use reference::link::{handshake_body, nonce_body, Cipher, State};
 use reference::message;
 
 /// On either side of each line; 4 is a word's value.
@@ -45,7 +45,7 @@ fn alone(g: &mut Generator, to: &End, time: u32) -> Vec<u8> {
         _ => return with_message(g, to),
     };
     let body = match packet_type {
-        NONCE => nonce(g, time),
+        NONCE => nonce(g, state, time),
         HANDSHAKE => handshake(g),
         _ => ping(g, state),
     };
@@ -71,21 +71,45 @@ fn with_message(g: &mut Generator, to: &End) -> Vec<u8> {
     to.expected_packet(message.packet_type(), &body)
 }
 
-/// Versions, encryptions, clocks and lengths on either side of each line.
-fn nonce(g: &mut Generator, time: u32) -> Vec<u8> {
+/// Versions, encryptions, clocks and lengths on either side of each line; the
+/// point is not judged.
+fn nonce(g: &mut Generator, to: State, time: u32) -> Vec<u8> {
     let version = g.pick(&[0, 0, 1, 1, 2, 2, 2, 3, 255]);
     let far = g.pick(&[0, 0, 1, -1, 29, 30, -30, 31, -31, i32::MAX, i32::MIN]);
     let theirs = time.wrapping_add(far as u32);
     let mut body = nonce_body(version, theirs, draw::array(g));
-    body[4] = g.pick(&[0, 0, 0, 0, 1, 2, 255]);
+    let [same, others @ ..] = key_ids(g, to.key_id);
+    let other = g.pick(&others);
+    body[..4].copy_from_slice(&g.pick(&[same, other]));
+    body[4] = encryption(g, to);
     if draw::one_in(g, 4) {
-        let [a, b, c, d, e, f] = draw::array(g);
-        body[..4].copy_from_slice(&[a, b, c, d]);
-        body[6..8].copy_from_slice(&[e, f]);
+        body[6..8].copy_from_slice(&draw::array::<2>(g));
+    }
+    if draw::coin(g) {
+        body[28..].copy_from_slice(&draw::array::<32>(g));
     }
     let length = g.pick(&[60, 60, 60, 60, 59, 28, 27, 5, 0, 61, 100, 1007, 1008]);
     body.resize(length, 9);
     body
+}
+
+/// The same, zeros, one that differs in a bit, and any.
+pub fn key_ids(g: &mut Generator, same: [u8; 4]) -> [[u8; 4]; 4] {
+    let mut near = same;
+    near[g.below(4) as usize] ^= 1 << g.below(8);
+    [same, [0; 4], near, draw::array(g)]
+}
+
+/// Mostly one that the link takes; a server takes nearly all of them.
+fn encryption(g: &mut Generator, to: State) -> u8 {
+    let any = g.byte();
+    let strange = g.pick(&[0, 1, 2, 3, 4, 127, 128, 129, 254, 255, any]);
+    let taken = match to.settings.cipher {
+        Cipher::ClearOnly => 0,
+        Cipher::CipherOnly => 1,
+        Cipher::Either => g.pick(&[0, 1]),
+    };
+    g.pick(&[taken, taken, strange])
 }
 
 fn handshake(g: &mut Generator) -> Vec<u8> {

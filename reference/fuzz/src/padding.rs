@@ -1,5 +1,6 @@
-//! What a peer puts around its packets on a padded link (document 02, A7):
-//! words before them and zeros behind them, mostly as they should be.
+//! What a peer puts around its packets on a padded or ciphered link (document
+//! 02, A7 and A9): words before them and zeros behind them, mostly as they
+//! should be.
 
 use crate::both::End;
 use crate::draw::{self, one_in};
@@ -12,9 +13,8 @@ const WORD: [u8; 4] = [4, 0, 0, 0];
 /// zeros too, now and then.
 pub fn around(g: &mut Generator, to: &End, packet: Vec<u8>) -> Vec<u8> {
     let words = words(g, to);
-    let state = to.second.state();
     let mut zeros = Vec::new();
-    if (state.settings.padded && state.stage >= 2) != one_in(g, 20) {
+    if (to.is_padded() && to.second.state().stage >= 2) != one_in(g, 20) {
         zeros.resize(packet::zeros(packet.len()), 0);
     }
     if one_in(g, 12) {
@@ -25,8 +25,7 @@ pub fn around(g: &mut Generator, to: &End, packet: Vec<u8>) -> Vec<u8> {
 
 /// None to five, mostly no more than the three that are allowed.
 pub fn words(g: &mut Generator, to: &End) -> Vec<u8> {
-    let state = to.second.state();
-    let may_stand = state.settings.padded && state.stage == 4;
+    let may_stand = to.is_padded() && to.second.state().stage == 4;
     if !may_stand && !one_in(g, 20) {
         return Vec::new();
     }

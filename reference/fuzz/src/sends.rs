@@ -6,6 +6,7 @@ use crate::compare::{same, Compared};
 use crate::counts::Counts;
 use crate::draw::{self, one_in};
 use crate::padding;
+use crate::pairs;
 use reference::generator::Generator;
 use reference::link::packet::FIRST_NUMBER;
 use reference::link::Outgoing;
@@ -16,9 +17,9 @@ use std::sync::OnceLock;
 const LONGEST_BODY: usize = 16_777_215 - 16;
 
 pub fn case(g: &mut Generator, counts: &mut Counts) -> Compared {
-    let set_ups = draw::set_ups(g);
+    let set_ups = pairs::meeting(g);
     let stage = g.pick(&[0, 1, 2, 3, 4, 4, 4, 4, 4, 4]);
-    let ends = both::opened(set_ups, stage, counts)?;
+    let ends = pairs::opened(set_ups, stage, counts)?;
     let from = g.below(2) as usize;
     let end = &ends[from];
     if stage == 4 && one_in(g, 1000) {
@@ -54,7 +55,7 @@ fn with_noise(
     let mut ours = vec![0xa5; room];
     let mut second = ours.clone();
     let (needed, payload) = to_send(what).raw();
-    let outgoing = noisy(g, needed);
+    let outgoing = noisy(g, needed, end.shows_key());
     let sent = raw_send(end.ours.raw(), &mut ours, payload, outgoing, time);
     let answer = both::raw_sent(end.second.send(what, &mut second));
     let call = || format!("send, room {room}: {outgoing:02x?}, payload {payload:02x?}");
@@ -84,8 +85,9 @@ pub fn raw_send(
     }
 }
 
-/// Random values wherever the type does not have a field.
-fn noisy(g: &mut Generator, needed: raw::Outgoing) -> raw::Outgoing {
+/// Random values wherever the type does not have a field, and for the point of
+/// a Nonce without one.
+fn noisy(g: &mut Generator, needed: raw::Outgoing, shows_key: bool) -> raw::Outgoing {
     use relay::packet_type as t;
     let mut noisy = random_outgoing(g);
     noisy.kind = needed.kind;
@@ -94,7 +96,12 @@ fn noisy(g: &mut Generator, needed: raw::Outgoing) -> raw::Outgoing {
         noisy.number = needed.number;
     }
     match needed.kind {
-        t::NONCE => noisy.random = needed.random,
+        t::NONCE => {
+            noisy.random = needed.random;
+            if shows_key {
+                noisy.point = needed.point;
+            }
+        }
         t::HANDSHAKE => (noisy.sender, noisy.peer) = (needed.sender, needed.peer),
         t::PING => noisy.id = needed.id,
         t::INVOKE => {
@@ -140,6 +147,7 @@ pub fn random_outgoing(g: &mut Generator) -> raw::Outgoing {
         random: draw::array(g),
         sender: netpid(g),
         peer: netpid(g),
+        point: draw::array(g),
     }
 }
 

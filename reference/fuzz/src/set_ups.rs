@@ -6,53 +6,69 @@ use crate::counts::Counts;
 use crate::draw::{self, coin, one_in};
 use crate::states::{self, our_settings, raw_settings};
 use reference::generator::Generator;
-use reference::link::{Link, Settings, State};
+use reference::link::{Cipher, Link, Settings, State};
 use reference::refusal::Refusal;
 use relay::raw;
 
 pub fn case(g: &mut Generator, counts: &mut Counts) -> Compared {
-    let any = g.byte();
+    let (any, cipher) = (g.byte(), draw::cipher(g));
     let settings = Settings {
         lowest_version: g.pick(&[0, 1, 2, 3, 4, 127, 128, 255, any, any]),
         padded: coin(g),
+        cipher: g.pick(&[Cipher::ClearOnly, Cipher::ClearOnly, cipher]),
         ..Settings::new(draw::side(g), coin(g))
     };
-    without_key(settings, counts)?;
+    without_key(settings, coin(g), counts)?;
     let settings = Settings {
         lowest_version: g.pick(&[0, 1, 2, 2, 2, 3, any]),
+        cipher,
         ..settings
     };
-    with_key(settings, &key(g), counts)
+    with_key(settings, coin(g), &key(g), counts)
 }
 
-fn without_key(settings: Settings, counts: &mut Counts) -> Compared {
+/// Through the wrapper and through the C interface.
+fn without_key(settings: Settings, only: bool, counts: &mut Counts) -> Compared {
     let ours = relay::Link::new(our_settings(settings));
     let ours = ours.map(|mut link| states::ours(link.raw()));
     let ours = ours.map_err(|refusal| refusal.number());
     let second = state(Link::set_up(settings));
     counts.add("set-up", second.map(word));
-    same("a set-up", || format!("{settings:?}"), ours, second)
+    let call = || format!("{settings:?}, only {only}");
+    same("a set-up", call, ours, second)?;
+    let set = raw_settings(settings, only);
+    // SAFETY: all is passed by value.
+    let answer = unsafe { raw::relay_set_up(set) };
+    compare(call, set, answer, second)
 }
 
-/// Through the C interface, so that a refused set-up's link is seen too: it is
-/// closed, and keeps nothing of the key.
-fn with_key(settings: Settings, key: &[u8], counts: &mut Counts) -> Compared {
-    let set = raw_settings(settings);
+fn with_key(settings: Settings, only: bool, key: &[u8], counts: &mut Counts) -> Compared {
+    let set = raw_settings(settings, only);
     // SAFETY: the pointer and length are a slice's.
     let answer = unsafe { raw::relay_set_up_with_key(set, key.as_ptr(), key.len()) };
+    let second = state(Link::set_up_with_key(settings, key));
+    counts.add("set-up with a key", second.map(word));
+    let call = || format!("{settings:?}, only {only}, key {key:02x?}");
+    compare(call, set, answer, second)
+}
+
+/// A refused set-up's link is closed, and keeps nothing of the key.
+fn compare(
+    call: impl Fn() -> String,
+    set: raw::Settings,
+    answer: raw::SetUp,
+    second: Result<State, u8>,
+) -> Compared {
     let ours = match answer.refusal {
         0 => Ok(states::ours(&answer.link)),
         number => Err(number),
     };
-    let second = state(Link::set_up_with_key(settings, key));
-    counts.add("set-up with a key", second.map(word));
-    let call = || format!("{settings:?}, key {key:02x?}");
-    same("a set-up with a key", call, ours, second)?;
+    same("a set-up's answer", &call, ours, second)?;
     if second.is_err() {
         let kept = (answer.link.closed, answer.link.keyid);
-        same("what a refused set-up keeps", call, kept, (true, 0))?;
+        return same("what a refused set-up keeps", call, kept, (true, 0));
     }
-    Ok(())
+    same("its settings", call, answer.link.set, set)
 }
 
 fn state(link: Result<Link, Refusal>) -> Result<State, u8> {
@@ -61,9 +77,11 @@ fn state(link: Result<Link, Refusal>) -> Result<State, u8> {
 }
 
 fn word(link: State) -> &'static str {
-    match link.settings.padded {
-        true => "padded link",
-        false => "unpadded link",
+    match (link.settings.padded, link.settings.cipher) {
+        (true, Cipher::ClearOnly) => "padded link",
+        (false, Cipher::ClearOnly) => "unpadded link",
+        (_, Cipher::CipherOnly) => "link that ciphers",
+        (_, Cipher::Either) => "link that may cipher",
     }
 }
 

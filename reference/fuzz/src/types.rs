@@ -2,10 +2,10 @@
 //! second program has no such send: document 01 gives them the refusals of a
 //! message that does not go this way.
 
-use crate::both;
 use crate::compare::{same, Compared};
 use crate::counts::Counts;
 use crate::draw;
+use crate::pairs;
 use crate::sends::{random_outgoing, raw_send};
 use reference::generator::Generator;
 use reference::link::Outgoing;
@@ -26,9 +26,9 @@ const KNOWN: [u32; 9] = [
 ];
 
 pub fn case(g: &mut Generator, counts: &mut Counts) -> Compared {
-    let set_ups = draw::set_ups(g);
+    let set_ups = pairs::meeting(g);
     let stage = g.below(5) as usize;
-    let mut end = both::opened(set_ups, stage, counts)?[g.below(2) as usize].clone();
+    let mut end = pairs::opened(set_ups, stage, counts)?[g.below(2) as usize].clone();
     if draw::one_in(g, 4) {
         end.receive(&[0; 4], 0, counts)?;
     }

@@ -1,5 +1,5 @@
 //! Document 02, A8: links that are set up with a key. A link keeps the key's
-//! KeyID alone; its driver derives with the key itself.
+//! KeyID alone; its driver derives with the key itself, and ciphers.
 
 use super::{Link, Settings};
 use crate::keys::LONGEST_KEY;
@@ -22,10 +22,14 @@ fn key_id(key: &[u8]) -> Result<[u8; 4], Refusal> {
 
 impl Link {
     /// A link with all its settings and a key. 36 for a key that a link does
-    /// not take, then what `set_up` refuses.
+    /// not take, whatever it is set to, then 30 if its lowest version is above
+    /// 2.
     pub fn set_up_with_key(settings: Settings, key: &[u8]) -> Result<Link, Refusal> {
         let key_id = key_id(key)?;
-        let link = Link::set_up(settings)?;
-        Ok(Link { key_id, ..link })
+        settings.judge()?;
+        Ok(Link {
+            key_id,
+            ..Link::fresh(settings)
+        })
     }
 }

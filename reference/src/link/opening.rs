@@ -48,6 +48,7 @@ pub fn has_point(version: u8) -> bool {
 
 /// What a Nonce says that we heed.
 pub struct Nonce {
+    pub key_id: [u8; 4],
     pub encryption: u8,
     pub version: u8,
     pub time: u32,
@@ -64,6 +65,7 @@ impl Nonce {
             return Err(Refusal::OpeningBodyShort);
         }
         Ok(Nonce {
+            key_id: body[..4].try_into().expect("four bytes"),
             encryption: body[4],
             version: body[5],
             time: read_u32(body, 8),
@@ -87,16 +89,6 @@ impl Nonce {
         Ok(())
     }
 
-    /// A client asks for encryption with 1 and leaves the choice to us with
-    /// 2 and more; a server's choice must be 0, none.
-    pub fn judge_encryption(&self, reader: Side) -> Result<(), Refusal> {
-        match (reader, self.encryption) {
-            (Side::Server, 1) => Err(Refusal::Encryption),
-            (Side::Client, 1..) => Err(Refusal::Encryption),
-            _ => Ok(()),
-        }
-    }
-
     pub fn judge_version(&self, reader: Side) -> Result<(), Refusal> {
         if reader == Side::Client && self.version > OUR_VERSION {
             return Err(Refusal::BeyondOffer);
@@ -105,7 +97,7 @@ impl Nonce {
     }
 }
 
-/// KeyID, encryption, flags and DH point are 0.
+/// As it is without the cipher: KeyID, encryption, flags and DH point are 0.
 pub fn nonce_body(version: u8, time: u32, random: [u8; 16]) -> Vec<u8> {
     let mut body = vec![0, 0, 0, 0, 0, version, 0, 0];
     body.extend(time.to_le_bytes());

@@ -1,6 +1,7 @@
 //! What stands between the packets of a padded link: zeros behind each packet
 //! from the Handshake on, and words before each packet after the Handshake.
-//! Links that are not padded have neither.
+//! Links that are padded by hand and those that are ciphered have both, all
+//! others neither.
 
 use super::opening::Stage;
 use super::{packet, Link, Received};
@@ -61,9 +62,15 @@ impl Link {
         Ok(words.len())
     }
 
+    /// On ciphered links nothing sets the padding but the cipher: it holds at
+    /// both ends, since both chose the cipher before either Handshake.
+    fn is_padded(&self) -> bool {
+        self.settings.padded || self.ciphered
+    }
+
     /// A padded link has written whole words since its Handshake.
     fn words_due(&self) -> usize {
-        if !self.settings.padded {
+        if !self.is_padded() {
             return 0;
         }
         let over = self.since_handshake % BLOCK;
@@ -80,7 +87,7 @@ impl Link {
 
     /// How many zeros follow the packet that goes over next, either way.
     pub(super) fn zeros_behind(&self, length: usize) -> usize {
-        if self.settings.padded && self.is_past_nonces() {
+        if self.is_padded() && self.is_past_nonces() {
             packet::zeros(length)
         } else {
             0
@@ -91,7 +98,7 @@ impl Link {
     /// receive in the opening is a Nonce or a Handshake, which has none: there
     /// a word is a length that is too short.
     pub(super) fn words_before(&self, bytes: &[u8]) -> Result<usize, Refusal> {
-        if self.settings.padded && self.stage == Stage::Open {
+        if self.is_padded() && self.stage == Stage::Open {
             words(bytes)
         } else {
             Ok(0)

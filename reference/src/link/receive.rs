@@ -80,8 +80,9 @@ impl Link {
         let nonce = Nonce::read(body)?;
         let clock = nonce.clock(our_time)?;
         nonce.judge_lowest(self.settings.lowest_version)?;
-        nonce.judge_encryption(self.settings.side)?;
+        let chosen = self.choose(&nonce)?;
         nonce.judge_version(self.settings.side)?;
+        self.ciphered = chosen;
         self.their_version = nonce.version;
         self.stage = self.stage.after();
         Ok(clock)

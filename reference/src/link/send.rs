@@ -1,6 +1,6 @@
 //! Sending packets.
 
-use super::opening::{handshake_body, nonce_body, OUR_VERSION};
+use super::opening::{handshake_body, OUR_VERSION};
 use super::{packet, Link, Outgoing};
 use crate::message::{self, Side};
 use crate::refusal::Refusal;
@@ -26,7 +26,7 @@ impl Link {
 
     fn body(&self, outgoing: &Outgoing) -> Result<Vec<u8>, Refusal> {
         match outgoing {
-            Outgoing::Nonce(time, random) => Ok(nonce_body(self.version(), *time, *random)),
+            Outgoing::Nonce(time, random, point) => Ok(self.nonce_body(*time, *random, *point)),
             Outgoing::Handshake(own, peer) => Ok(handshake_body(self.sets_flag(), *own, *peer)),
             Outgoing::Ping(_) if self.awaited.is_some() => Err(Refusal::PingOutOfTurn),
             Outgoing::Ping(id) => Ok(id.to_le_bytes().to_vec()),
@@ -42,7 +42,7 @@ impl Link {
     }
 
     /// The version that our Nonce bears.
-    fn version(&self) -> u8 {
+    pub(super) fn version(&self) -> u8 {
         match self.settings.side {
             Side::Client => OUR_VERSION,
             Side::Server => self.their_version.min(OUR_VERSION),

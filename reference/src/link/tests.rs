@@ -1,3 +1,5 @@
+mod ciphered;
+mod ciphered_after;
 mod key;
 mod nonce_fields;
 mod padded;
@@ -44,7 +46,7 @@ impl Pair {
     }
 }
 
-const NONCE_OUT: Outgoing = Outgoing::Nonce(TIME, [7; 16]);
+const NONCE_OUT: Outgoing = Outgoing::Nonce(TIME, [7; 16], [8; 32]);
 const HANDSHAKE_OUT: Outgoing = Outgoing::Handshake([1; 12], [2; 12]);
 
 fn sent(link: &mut Link, outgoing: Outgoing) -> Vec<u8> {
@@ -176,7 +178,7 @@ fn the_two_sides_judge_a_nonce_differently() {
 #[test]
 fn the_bytes_of_the_opening() {
     let mut pair = Pair::new(true, true);
-    let nonce = Outgoing::Nonce(0x0403_0201, *b"ABCDEFGHIJKLMNOP");
+    let nonce = Outgoing::Nonce(0x0403_0201, *b"ABCDEFGHIJKLMNOP", [9; 32]);
     let packet = sent(&mut pair.client, nonce);
     assert_eq!(packet[..12], *b"\x4c\0\0\0\xfe\xff\xff\xff\xaa\x87\xcb\x7a");
     assert_eq!(packet[12..24], [0, 0, 0, 0, 0, 2, 0, 0, 1, 2, 3, 4]);

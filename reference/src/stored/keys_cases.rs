@@ -27,7 +27,7 @@ use crate::checksum::CRC32;
 use crate::hash::{md5, sha1};
 use crate::hexadecimal::hexadecimal;
 use crate::keys;
-use crate::link::{nonce_fields, Link, Settings};
+use crate::link::{nonce_fields, Cipher, Link, Settings};
 use crate::refusal::Refusal;
 
 pub const DIGEST: u8 = 1;
@@ -93,6 +93,7 @@ fn set_up(records: &mut Records) -> Result<String, Refusal> {
         crc32c_allowed: records.flag(),
         lowest_version: records.u8(),
         padded: records.flag(),
+        cipher: Cipher::ClearOnly,
     };
     let link = Link::set_up_with_key(settings, records.run())?;
     Ok(format!("link {}", hexadecimal(&link.state().key_id)))
@@ -163,6 +164,19 @@ mod tests {
         assert!(count(&|words| words.len() == 5) >= 1000);
         assert!(count(&|words| words[0] == "link") >= 100);
         assert!(count(&|words| words.len() == 4) >= 400);
+    }
+
+    /// What was stored before links were ciphered: size and CRC-32 of input and
+    /// output.
+    const BASE_INPUT: (usize, u32) = (1_444_633, 0x4F7E_806A);
+    const BASE_OUTPUT: (usize, u32) = (881_496, 0x7ECC_9AEA);
+
+    #[test]
+    fn the_base_stays_in_front() {
+        let input = input();
+        for (bytes, (size, sum)) in [(&input, BASE_INPUT), (&output(&input), BASE_OUTPUT)] {
+            assert_eq!(CRC32.of(&bytes[..size]), sum);
+        }
     }
 
     #[test]

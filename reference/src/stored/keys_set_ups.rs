@@ -6,7 +6,7 @@ use super::link_talk::SIDES;
 use super::records::push_run;
 use crate::generator::Generator;
 use crate::keys::LONGEST_KEY;
-use crate::link::Settings;
+use crate::link::{Cipher, Settings};
 use crate::message::Side;
 
 const LOWEST: [u8; 8] = [0, 1, 2, 3, 4, 127, 128, 255];
@@ -60,6 +60,7 @@ fn every_setting(records: &mut Vec<u8>, generator: &mut Generator) {
                         crc32c_allowed,
                         lowest_version,
                         padded,
+                        cipher: Cipher::ClearOnly,
                     };
                     push_one(records, settings, &generator.bytes(32));
                     push_one(records, settings, &generator.bytes(31));
@@ -125,6 +126,7 @@ fn random(records: &mut Vec<u8>, generator: &mut Generator) {
         crc32c_allowed: generator.pick(&[false, true]),
         lowest_version: generator.below(4) as u8,
         padded: generator.pick(&[false, true]),
+        cipher: Cipher::ClearOnly,
     };
     let length = 28 + generator.below(40) as usize;
     let mut key = generator.bytes(length);

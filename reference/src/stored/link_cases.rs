@@ -8,13 +8,18 @@
 //! that ends with the same one is the same for every packet. Op 3 is a link set
 //! up with every setting: see `link_settings`; if that is refused, the newest
 //! link stays as it was. Op 5 flushes: room (4 bytes); its line is like that of
-//! a send. Op 4 is kept free. A line ends with ` closed` if the newest link is
-//! closed after the op.
+//! a send. Op 6 has no fields; its line tells whether the link is ciphered. Op
+//! 4 is kept free. A line ends with ` closed` if the newest link is closed
+//! after the op.
 //!
 //! The conversations of a later request come behind all earlier ones, whose
 //! bytes stay.
 
+#[cfg(test)]
+mod tests;
+
 use super::link_bodies;
+use super::link_ciphered;
 use super::link_closing;
 use super::link_fronts;
 use super::link_openings;
@@ -37,6 +42,7 @@ pub const RECEIVE: u8 = 1;
 pub const SEND: u8 = 2;
 pub const SET_UP: u8 = 3;
 pub const FLUSH: u8 = 5;
+pub const TELL: u8 = 6;
 
 pub fn input() -> Vec<u8> {
     let mut generator = Generator::new(0x11_4B);
@@ -50,6 +56,7 @@ pub fn input() -> Vec<u8> {
     link_random::push(&mut records, &mut generator);
     link_versions::push(&mut records);
     link_padded::push(&mut records);
+    link_ciphered::push(&mut records);
     records
 }
 
@@ -63,13 +70,14 @@ pub fn output(records: &[u8]) -> Vec<u8> {
                 link = Some(new_link(&mut records));
                 Ok("link".to_string())
             }
-            (SET_UP, _) => Link::set_up(link_settings::take(&mut records)).map(|new| {
+            (SET_UP, _) => set_up(&mut records).map(|new| {
                 link = Some(new);
                 "link".to_string()
             }),
             (RECEIVE, Some(link)) => receive_line(link, &mut records),
             (SEND, Some(link)) => send_line(link, &mut records),
             (FLUSH, Some(link)) => flush_line(link, &mut records),
+            (TELL, Some(link)) => Ok(tell_line(link)),
             _ => unreachable!("op {op}, or no link before it"),
         };
         lines += &line.unwrap_or_else(|refusal| format!("no {}", refusal.number()));
@@ -84,6 +92,11 @@ pub fn output(records: &[u8]) -> Vec<u8> {
 fn new_link(records: &mut Records) -> Link {
     let side = link_settings::take_side(records);
     Link::new(side, records.flag())
+}
+
+fn set_up(records: &mut Records) -> Result<Link, Refusal> {
+    let (settings, key) = link_settings::take(records);
+    link_settings::set_up(settings, key)
 }
 
 fn receive_line(link: &mut Link, records: &mut Records) -> Result<String, Refusal> {
@@ -119,109 +132,16 @@ fn flush_line(link: &mut Link, records: &mut Records) -> Result<String, Refusal>
     Ok(written_line("flush", size, &buffer))
 }
 
+fn tell_line(link: &Link) -> String {
+    let told = if link.state().ciphered {
+        "cipher"
+    } else {
+        "clear"
+    };
+    told.to_string()
+}
+
 fn written_line(op: &str, size: usize, buffer: &[u8]) -> String {
     let (one, other) = (CRC32.of(buffer), CRC32C.of(buffer));
     format!("{op} {size} {one:08x} {other:08x}")
-}
-
-#[cfg(test)]
-mod tests {
-    use super::*;
-
-    fn text() -> String {
-        String::from_utf8(output(&input())).unwrap()
-    }
-
-    #[test]
-    fn every_refusal_and_answer_occurs() {
-        let text = text();
-        let count = |part: &str| {
-            let words = |line: &&str| format!("{line} ").starts_with(part);
-            text.lines().filter(words).count()
-        };
-        let by_receive = (1..=10).chain([17, 20, 21, 22]);
-        for refusal in by_receive.chain([12, 15, 16, 19, 24, 25, 26, 30]) {
-            let part = format!("no {refusal} ");
-            assert!(count(&part) >= 20, "{part}: {}", count(&part));
-        }
-        for part in ["link ", "wait ", "packet ", "sent ", "flush "] {
-            assert!(count(part) >= 500, "{part}: {}", count(part));
-        }
-    }
-
-    /// What was stored before links had lowest versions: size and CRC-32 of
-    /// input and output.
-    const BASE_INPUT: (usize, u32) = (1_603_482, 0x6E4E_8C57);
-    const BASE_OUTPUT: (usize, u32) = (483_550, 0xF642_C1D6);
-
-    /// And before links were padded.
-    const VERSIONS_INPUT: (usize, u32) = (1_853_919, 0x26ED_BBE4);
-    const VERSIONS_OUTPUT: (usize, u32) = (570_585, 0x72C9_63E4);
-    const VERSIONS_LINES: usize = 31_986;
-
-    #[test]
-    fn the_base_stays_in_front() {
-        let input = input();
-        for (bytes, (size, sum)) in [(&input, BASE_INPUT), (&output(&input), BASE_OUTPUT)] {
-            assert_eq!(CRC32.of(&bytes[..size]), sum);
-        }
-        assert_eq!(input[BASE_INPUT.0], SET_UP);
-    }
-
-    #[test]
-    fn lowest_versions_stay_behind_the_base() {
-        let (input, output) = (input(), output(&input()));
-        for (bytes, (size, sum)) in [(&input, VERSIONS_INPUT), (&output, VERSIONS_OUTPUT)] {
-            assert_eq!(CRC32.of(&bytes[..size]), sum);
-        }
-        assert_eq!(input[VERSIONS_INPUT.0], SET_UP);
-        let before = &output[..VERSIONS_OUTPUT.0];
-        let lines = before.iter().filter(|byte| **byte == b'\n').count();
-        assert_eq!(lines, VERSIONS_LINES);
-    }
-
-    /// A record of each setting and of a flush, byte by byte.
-    #[test]
-    fn the_records_of_a_padded_link() {
-        let set_up = |padded| [SET_UP, 0, 1, 0, padded, 0, 0, 0, 0];
-        let flush = [FLUSH, 2, 0, 0, 0];
-        let records = [&set_up(1)[..], &flush, &set_up(0), &flush].concat();
-        let (one, other) = (CRC32.of(&[FILLING; 2]), CRC32C.of(&[FILLING; 2]));
-        let line = format!("link\nflush 0 {one:08x} {other:08x}\n");
-        assert_eq!(output(&records), line.repeat(2).into_bytes());
-    }
-
-    #[test]
-    fn a_refused_set_up_leaves_the_newest_link() {
-        let refused = [SET_UP, 1, 0, 3, 0, 0, 0, 0, 0];
-        let taken = [SET_UP, 1, 0, 2, 0, 0, 0, 0, 0];
-        // A length of 1 closes the link.
-        let closing = [RECEIVE, 0, 0, 0, 0, 4, 0, 0, 0, 1, 0, 0, 0];
-        let nothing = [RECEIVE, 0, 0, 0, 0, 0, 0, 0, 0];
-        let records = [
-            &refused[..],
-            &taken,
-            &refused,
-            &nothing,
-            &closing,
-            &refused,
-            &taken,
-        ];
-        let lines = String::from_utf8(output(&records.concat())).unwrap();
-        let expected = "no 30\nlink\nno 30\nwait 4\nno 1 closed\nno 30 closed\nlink\n";
-        assert_eq!(lines, expected);
-    }
-
-    #[test]
-    fn closed_lines_are_refusals() {
-        let text = text();
-        for line in text.lines().filter(|line| line.ends_with(" closed")) {
-            assert!(line.starts_with("no "), "{line}");
-        }
-    }
-
-    #[test]
-    fn within_the_agreed_size() {
-        assert!(input().len() <= 4_000_000, "{}", input().len());
-    }
 }

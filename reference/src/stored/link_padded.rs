@@ -108,6 +108,12 @@ fn whole(records: &mut Vec<u8>, mut talk: Talk, flushers: &[Side]) {
         talk.open_until(packets);
         flush(&mut talk, flushers, &mut before);
     }
+    converse(&mut talk, flushers, before);
+    talk.store(records);
+}
+
+/// What comes after the opening.
+pub fn converse(talk: &mut Talk, flushers: &[Side], mut before: Vec<u8>) {
     for (sender, sending) in traffic() {
         if sender == talk.side {
             talk.send(&sending);
@@ -116,12 +122,11 @@ fn whole(records: &mut Vec<u8>, mut talk: Talk, flushers: &[Side]) {
             talk.receive(&before);
             before.clear();
         }
-        flush(&mut talk, flushers, &mut before);
+        flush(talk, flushers, &mut before);
     }
-    talk.store(records);
 }
 
-fn flush(talk: &mut Talk, flushers: &[Side], before: &mut Vec<u8>) {
+pub fn flush(talk: &mut Talk, flushers: &[Side], before: &mut Vec<u8>) {
     if flushers.contains(&talk.side) {
         talk.flush(ENOUGH);
     }

@@ -30,7 +30,7 @@ pub fn push(records: &mut Vec<u8>) {
     }
 }
 
-fn with_words(talk: &Talk, count: usize, packet_type: u32, size: usize) -> Vec<u8> {
+pub fn with_words(talk: &Talk, count: usize, packet_type: u32, size: usize) -> Vec<u8> {
     let body: Vec<u8> = (1..=size as u8).collect();
     [words(count), talk.forged(packet_type, &body)].concat()
 }
@@ -51,7 +51,7 @@ pub fn every_beginning(records: &mut Vec<u8>, talk: &Talk, bytes: &[u8]) {
 
 /// Bytes behind a packet, which are left for the next call: zeros and words as
 /// well.
-fn behind(records: &mut Vec<u8>, mut talk: Talk, count: usize, size: usize) {
+pub fn behind(records: &mut Vec<u8>, mut talk: Talk, count: usize, size: usize) {
     for bytes in [&[0; 4][..], &[7], &[4, 0, 0, 0], &[0, 4], &[255; 3]] {
         let packet = with_words(&talk, count, ANY, size);
         talk.receive(&[&packet[..], bytes].concat());
@@ -60,7 +60,7 @@ fn behind(records: &mut Vec<u8>, mut talk: Talk, count: usize, size: usize) {
 }
 
 /// Each zero something else, and together; seen once the last of them is there.
-fn zeros(records: &mut Vec<u8>, talk: &Talk, count: usize) {
+pub fn zeros(records: &mut Vec<u8>, talk: &Talk, count: usize) {
     for size in [5, 6, 7] {
         let sound = with_words(talk, count, ANY, size);
         let first = 4 * count + 16 + size;
@@ -82,7 +82,7 @@ fn zeros(records: &mut Vec<u8>, talk: &Talk, count: usize) {
 }
 
 /// Wrong zeros under a wrong checksum: nothing is said before both are there.
-fn two_faults(records: &mut Vec<u8>, talk: &Talk) {
+pub fn two_faults(records: &mut Vec<u8>, talk: &Talk) {
     for size in [4, 5, 6, 7] {
         for count in 0..=4 {
             let sound = with_words(talk, count, ANY, size);
@@ -109,7 +109,7 @@ fn every_ending(records: &mut Vec<u8>, talk: &Talk, bytes: &[u8], from: usize) {
 
 /// Pings and Pongs of a wrong size, in turn and not, with zeros right and
 /// wrong.
-fn pings(records: &mut Vec<u8>, talk: &Talk) {
+pub fn pings(records: &mut Vec<u8>, talk: &Talk) {
     for size in [0, 1, 5, 6, 7, 9, 10, 11, 13] {
         for packet_type in [PING, PONG] {
             for ping_first in [false, true] {
@@ -130,7 +130,7 @@ fn pings(records: &mut Vec<u8>, talk: &Talk) {
 }
 
 /// The next packet where zeros should be: its length's first byte is not 0.
-fn missing(records: &mut Vec<u8>, talk: &Talk) {
+pub fn missing(records: &mut Vec<u8>, talk: &Talk) {
     for size in SIZES {
         let (number, checksum) = talk.expected();
         let body = vec![3; size];

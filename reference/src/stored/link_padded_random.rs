@@ -37,6 +37,11 @@ fn traffic(records: &mut Vec<u8>, generator: &mut Generator) {
         talk.open_until(packets);
         flushes(generator, &mut talk, &mut stream);
     }
+    busy(records, generator, talk, stream);
+}
+
+/// What comes after the opening; `stream` is what the peer wrote since.
+pub fn busy(records: &mut Vec<u8>, generator: &mut Generator, mut talk: Talk, mut stream: Vec<u8>) {
     for _ in 0..6 + generator.below(10) {
         step(generator, &mut talk, &mut stream);
         if talk.is_closed() {
@@ -55,7 +60,7 @@ fn traffic(records: &mut Vec<u8>, generator: &mut Generator) {
     talk.store(records);
 }
 
-fn flushes(generator: &mut Generator, talk: &mut Talk, stream: &mut Vec<u8>) {
+pub fn flushes(generator: &mut Generator, talk: &mut Talk, stream: &mut Vec<u8>) {
     match generator.below(5) {
         0 => talk.flush(generator.below(14) as usize),
         1 => stream.extend(talk.peer_flushes()),

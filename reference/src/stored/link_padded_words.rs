@@ -46,7 +46,7 @@ const LENGTHS: [u32; 18] = [
 
 /// A length behind up to four words, with nothing more, then before a sound
 /// front; only a fourth word is seen before it.
-fn lengths(records: &mut Vec<u8>, talk: &Talk) {
+pub fn lengths(records: &mut Vec<u8>, talk: &Talk) {
     let front = talk.forged(ANY, &[])[4..12].to_vec();
     for count in 0..=4 {
         for length in LENGTHS {
@@ -63,7 +63,7 @@ fn lengths(records: &mut Vec<u8>, talk: &Talk) {
 
 /// Four and five words: every beginning that is waited on, then every one
 /// that is not.
-fn too_many(records: &mut Vec<u8>, talk: &Talk) {
+pub fn too_many(records: &mut Vec<u8>, talk: &Talk) {
     let packet = talk.forged(ANY, b"abcde");
     for count in [4, 5] {
         let bytes = [words(count), packet.clone()].concat();
@@ -87,7 +87,7 @@ fn too_many(records: &mut Vec<u8>, talk: &Talk) {
 }
 
 /// Numbers and types that are refused once 12 bytes are there behind words.
-fn faults(records: &mut Vec<u8>, talk: &Talk) {
+pub fn faults(records: &mut Vec<u8>, talk: &Talk) {
     let (number, checksum) = talk.expected();
     for count in 0..=4 {
         for (off, packet_type) in [(1, ANY), (1, NONCE), (0, NONCE), (0, HANDSHAKE)] {
@@ -105,7 +105,7 @@ fn faults(records: &mut Vec<u8>, talk: &Talk) {
 
 /// The checksum is over the packet: with the words, with the zeros or with the
 /// other polynomial it is wrong.
-fn sums(records: &mut Vec<u8>, talk: &Talk) {
+pub fn sums(records: &mut Vec<u8>, talk: &Talk) {
     for size in [4, 5, 6, 7] {
         let sound = talk.forged(ANY, &vec![1; size]);
         let (at, end) = (12 + size, 16 + size);
@@ -124,7 +124,7 @@ fn sums(records: &mut Vec<u8>, talk: &Talk) {
 }
 
 /// Values that are no words, before a sound packet.
-fn no_words(records: &mut Vec<u8>, talk: &Talk) {
+pub fn no_words(records: &mut Vec<u8>, talk: &Talk) {
     let packet = talk.forged(ANY, b"");
     for value in [0, 0x0400_0000, 0x0404_0404, 5, 3] {
         for count in 0..=2 {
@@ -139,7 +139,7 @@ fn no_words(records: &mut Vec<u8>, talk: &Talk) {
 }
 
 /// Ping and Pong behind words, in turn and not, of the right size and not.
-fn turns(records: &mut Vec<u8>, talk: &Talk) {
+pub fn turns(records: &mut Vec<u8>, talk: &Talk) {
     for count in 0..=4 {
         for size in [7, 8, 9] {
             let mut talk = talk.clone();
@@ -161,7 +161,7 @@ fn turns(records: &mut Vec<u8>, talk: &Talk) {
 
 /// Packets with all numbers of words between them in one piece, and what the
 /// link makes of the rest after each.
-fn joined(records: &mut Vec<u8>, mut talk: Talk) {
+pub fn joined(records: &mut Vec<u8>, mut talk: Talk) {
     let (first, checksum) = talk.expected();
     let mut bytes = Vec::new();
     for turn in 0..16 {

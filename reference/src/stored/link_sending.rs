@@ -2,8 +2,10 @@
 //!
 //! A record of it is kind (0 Nonce, 1 Handshake, 2 Ping, 3 Pong, 4 message),
 //! time (4 bytes), random (16), own and peer NetPID (12 each), ping ID (8),
-//! room (4), the fields of a message, then n (4) and n bytes, its payload or
-//! text. As with messages, fields without a meaning still hold something.
+//! room (4), the fields of a message, then n (4) and n bytes: a message's
+//! payload or text, or a Nonce's point, of which bytes that are not there are
+//! 0 and those past it have no meaning. As with messages, fields without a
+//! meaning still hold something.
 
 use super::records::{self, push_run, Draft, Records};
 use crate::link::Outgoing;
@@ -47,6 +49,13 @@ impl<'a> Sending<'a> {
         }
     }
 
+    pub fn nonce_with(time: u32, point: &'a [u8]) -> Sending<'a> {
+        Sending {
+            bytes: point,
+            ..Sending::nonce(time)
+        }
+    }
+
     pub fn handshake() -> Sending<'a> {
         Sending::new(HANDSHAKE)
     }
@@ -83,9 +92,13 @@ impl<'a> Sending<'a> {
         sendings
     }
 
+    fn point(&self) -> [u8; 32] {
+        std::array::from_fn(|i| self.bytes.get(i).copied().unwrap_or(0))
+    }
+
     pub fn outgoing(&self) -> Outgoing<'a> {
         match self.kind {
-            NONCE => Outgoing::Nonce(self.time, self.random),
+            NONCE => Outgoing::Nonce(self.time, self.random, self.point()),
             HANDSHAKE => Outgoing::Handshake(self.own, self.peer),
             PING => Outgoing::Ping(self.ping_id),
             PONG => Outgoing::Pong,

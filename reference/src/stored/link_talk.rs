@@ -1,13 +1,14 @@
 //! A conversation in the making: the link whose calls are stored, and a peer
 //! that gives the bytes it receives.
 
-use super::link_cases::{FLUSH, NEW, RECEIVE, SEND, SET_UP};
+mod set_up;
+
+use super::link_cases::{FLUSH, RECEIVE, SEND, TELL};
 use super::link_sending::Sending;
-use super::link_settings;
 use super::message_cases::LONGEST;
-use super::records::{self, other, push_run, Draft};
+use super::records::{self, push_run, Draft};
 use crate::checksum::Polynomial;
-use crate::link::{handshake_body, nonce_body, packet, Link, Received, Settings, OUR_VERSION};
+use crate::link::{handshake_body, nonce_body, packet, Link, Received, OUR_VERSION};
 use crate::message::Side;
 use crate::refusal::Refusal;
 
@@ -33,45 +34,12 @@ pub struct Talk {
     words: Vec<u8>,
     /// Packets of the opening that were exchanged.
     opened: usize,
+    /// What the Nonces of both ends have as point.
+    point: &'static [u8],
     records: Vec<u8>,
 }
 
 impl Talk {
-    pub fn new(side: Side, (ours, theirs): (bool, bool)) -> Talk {
-        let record = vec![NEW, (side == Side::Server).into(), ours.into()];
-        let peer = Settings::new(other(side), theirs);
-        Talk::begin(record, Settings::new(side, ours), peer)
-    }
-
-    /// Of two links with all their settings: ours, that is stored, and the
-    /// peer's.
-    pub fn set_up(ours: Settings, theirs: Settings) -> Talk {
-        let mut record = vec![SET_UP];
-        link_settings::push(&mut record, ours);
-        Talk::begin(record, ours, theirs)
-    }
-
-    fn begin(record: Vec<u8>, ours: Settings, theirs: Settings) -> Talk {
-        let link = |settings| Link::set_up(settings).expect("settings of a talk are sound");
-        Talk {
-            side: ours.side,
-            time: TIME,
-            link: link(ours),
-            peer: link(theirs),
-            words: Vec::new(),
-            opened: 0,
-            records: record,
-        }
-    }
-
-    /// A set-up that is refused: the link of this conversation stays the
-    /// newest.
-    pub fn refused_set_up(&mut self, settings: Settings) {
-        assert!(Link::set_up(settings).is_err());
-        self.records.push(SET_UP);
-        link_settings::push(&mut self.records, settings);
-    }
-
     /// With the first `packets` of the opening exchanged.
     pub fn after(packets: usize, side: Side, settings: (bool, bool)) -> Talk {
         let mut talk = Talk::new(side, settings);
@@ -81,13 +49,31 @@ impl Talk {
 
     pub fn open_until(&mut self, packets: usize) {
         while self.opened < packets {
-            let sending = match self.opened {
-                0 | 1 => Sending::nonce(self.time),
-                _ => Sending::handshake(),
-            };
+            let sending = self.of_opening();
             self.pass(self.sender(), &sending);
             self.opened += 1;
         }
+    }
+
+    /// The next packet of the opening.
+    fn of_opening(&self) -> Sending<'static> {
+        match self.opened {
+            0 | 1 => Sending::nonce_with(self.time, self.point),
+            _ => Sending::handshake(),
+        }
+    }
+
+    /// The same between ends that may refuse each other, whoever does: whether
+    /// both took it. What a peer does not send, the link does not get.
+    pub fn try_next(&mut self) -> bool {
+        let (sender, sending) = (self.sender(), self.of_opening());
+        if sender == self.side {
+            self.send(&sending);
+        } else if let Ok(packet) = self.peer_tries(&sending) {
+            self.receive(&packet);
+        }
+        self.opened += 1;
+        !self.link.is_closed() && !self.peer.is_closed()
     }
 
     /// A sound packet from one end to the other.
@@ -151,6 +137,11 @@ impl Talk {
         }
     }
 
+    /// Has the link tell whether it is ciphered.
+    pub fn tell(&mut self) {
+        self.records.push(TELL);
+    }
+
     /// The words that the peer writes now; none if it is closed.
     pub fn peer_flushes(&mut self) -> Vec<u8> {
         let mut buffer = vec![0; 16];
@@ -178,8 +169,7 @@ impl Talk {
             Side::Server => Draft::new(records::INVOKE, 12).actor(13),
         };
         let sending = match self.opened {
-            0 | 1 => Sending::nonce(self.time),
-            2 | 3 => Sending::handshake(),
+            0..OPEN => self.of_opening(),
             _ => Sending::message(message, b"abcde"),
         };
         self.peer_sends(&sending)
@@ -223,7 +213,7 @@ impl Talk {
         let (number, checksum) = self.expected();
         let mut packet = packet::whole(number, packet_type, body, checksum);
         let state = self.link.state();
-        if state.settings.padded && state.stage >= 2 {
+        if (state.settings.padded || state.ciphered) && state.stage >= 2 {
             packet.resize(packet.len() + packet::zeros(packet.len()), 0);
         }
         packet

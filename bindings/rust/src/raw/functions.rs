@@ -40,6 +40,10 @@ extern "C" {
         n: usize,
     ) -> Derived;
     pub fn relay_clear(buf: *mut u8, n: usize);
+    pub fn relay_encipher_keys(key: CipherKey) -> RoundKeys;
+    pub fn relay_decipher_keys(key: CipherKey) -> RoundKeys;
+    pub fn relay_encipher(buf: *mut u8, n: usize, keys: RoundKeys, vector: Vector) -> Chained;
+    pub fn relay_decipher(buf: *mut u8, n: usize, keys: RoundKeys, vector: Vector) -> Chained;
 
     pub fn relay_fresh(first: PublisherNumber) -> Started;
     pub fn relay_ask(table: *mut Table, link: u8, number: FrontNumber, publisher: u8) -> Asked;

@@ -51,7 +51,9 @@ fn structs() -> Vec<String> {
                 server,
                 allows,
                 lowest,
-                padded
+                padded,
+                cipher,
+                only
             }
         ),
         lines!(relay_moment, Moment { time }),
@@ -66,6 +68,7 @@ fn structs() -> Vec<String> {
                 phase,
                 awaits,
                 owes,
+                ciphered,
                 keyid,
                 sends,
                 gets,
@@ -113,7 +116,8 @@ fn structs() -> Vec<String> {
                 id,
                 random,
                 sender,
-                peer
+                peer,
+                point
             }
         ),
         lines!(relay_sent, Sent { refusal, size }),
@@ -157,6 +161,10 @@ fn structs() -> Vec<String> {
                 vector
             }
         ),
+        lines!(relay_cipher_key, CipherKey { bytes }),
+        lines!(relay_round_keys, RoundKeys { bytes }),
+        lines!(relay_vector, Vector { bytes }),
+        lines!(relay_chained, Chained { refusal, vector }),
         lines!(relay_front_number, FrontNumber { value: 0 }),
         lines!(relay_publisher_number, PublisherNumber { value: 0 }),
         lines!(

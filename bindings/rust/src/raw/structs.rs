@@ -27,6 +27,8 @@ pub struct Settings {
     pub allows: bool,
     pub lowest: u8,
     pub padded: bool,
+    pub cipher: bool,
+    pub only: bool,
 }
 
 #[repr(C)]
@@ -46,6 +48,7 @@ pub struct Link {
     pub phase: u8,
     pub awaits: bool,
     pub owes: bool,
+    pub ciphered: bool,
     pub keyid: u32,
     pub sends: u32,
     pub gets: u32,
@@ -102,6 +105,7 @@ pub struct Outgoing {
     pub random: [u8; 16],
     pub sender: NetPid,
     pub peer: NetPid,
+    pub point: [u8; 32],
 }
 
 #[repr(C)]
@@ -133,7 +137,7 @@ pub struct NonceFields {
     pub point: Part,
 }
 
-// No Debug for the two that hold secrets.
+// No Debug for those that hold secrets, from here to the table's.
 #[repr(C)]
 #[derive(Clone, Copy)]
 pub struct Derivation {
@@ -150,6 +154,31 @@ pub struct Derived {
     pub size: usize,
     pub key: [u8; 32],
     pub vector: [u8; 16],
+}
+
+#[repr(C)]
+#[derive(Clone, Copy)]
+pub struct CipherKey {
+    pub bytes: [u8; 32],
+}
+
+#[repr(C)]
+#[derive(Clone, Copy)]
+pub struct RoundKeys {
+    pub bytes: [u8; 240],
+}
+
+#[repr(C)]
+#[derive(Clone, Copy)]
+pub struct Vector {
+    pub bytes: [u8; 16],
+}
+
+#[repr(C)]
+#[derive(Clone, Copy)]
+pub struct Chained {
+    pub refusal: u8,
+    pub vector: Vector,
 }
 
 #[repr(C)]

@@ -2,6 +2,7 @@
 //! writes gets a value that no other field has and is read here, and each field
 //! that a call reads is written here and seen by what the call does.
 
+mod cipher;
 mod keys;
 mod links;
 mod messages;
@@ -43,6 +44,8 @@ const fn settings(server: bool, allows: bool) -> Settings {
         allows,
         lowest: 0,
         padded: false,
+        cipher: false,
+        only: false,
     }
 }
 

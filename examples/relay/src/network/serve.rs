@@ -2,7 +2,9 @@
 
 use super::server::Server;
 use super::{connect, Input};
-use relay::{Settings, PUBLISHERS};
+use crate::card::CardKind;
+use crate::settings::LinkSettings;
+use relay::PUBLISHERS;
 use std::io;
 use std::net::{SocketAddr, TcpListener};
 use std::sync::mpsc::{sync_channel, Receiver, RecvTimeoutError, SyncSender};
@@ -13,15 +15,15 @@ use std::time::{Duration, Instant};
 const INPUTS: usize = 256;
 
 /// Where a publisher is, and how the link to it is set up.
-#[derive(Clone, Copy, Debug, PartialEq, Eq)]
+#[derive(Clone, Debug)]
 pub struct Publisher {
     pub address: SocketAddr,
-    pub settings: Settings,
+    pub link: LinkSettings,
 }
 
 pub struct Options {
     /// Of the links to all front ends.
-    pub front: Settings,
+    pub front: LinkSettings,
     pub publishers: [Publisher; PUBLISHERS as usize],
     /// Between two attempts to reach a publisher.
     pub retry: Duration,
@@ -30,6 +32,8 @@ pub struct Options {
     pub keep_alive: Duration,
     /// From a connection's start until its link must be open.
     pub opening: Duration,
+    /// Whose cards links that may cipher have; there is one if any link may.
+    pub card: Option<CardKind>,
 }
 
 /// Runs the relay. Comes back only if it cannot be started. Each line on
@@ -37,8 +41,8 @@ pub struct Options {
 pub fn serve(listener: TcpListener, options: &Options) -> io::Result<()> {
     let (inputs, queue) = sync_channel(INPUTS);
     let server = Server::new(options, inputs.clone())?;
-    for (publisher, Publisher { address, .. }) in (0..).zip(options.publishers) {
-        let (retry, inputs) = (options.retry, inputs.clone());
+    for (publisher, Publisher { address, .. }) in (0..).zip(&options.publishers) {
+        let (address, retry, inputs) = (*address, options.retry, inputs.clone());
         thread::spawn(move || connect::keep_connected(publisher, address, retry, &inputs));
     }
     let reports = inputs.clone();

@@ -3,6 +3,7 @@
 use super::connection::Connection;
 use super::stream::{spawn_reader, spawn_writer, Owner};
 use super::{Input, Options};
+use crate::card::CardKind;
 use crate::core::Core;
 use crate::event::{Action, Event, Opening, Peer};
 use relay::{NetPid, LINKS};
@@ -17,6 +18,7 @@ use std::time::{Duration, Instant, SystemTime, UNIX_EPOCH};
 
 pub struct Server {
     core: Core,
+    card: Option<CardKind>,
     connections: HashMap<Peer, Connection>,
     inputs: SyncSender<Input>,
     next_serial: u64,
@@ -29,9 +31,11 @@ pub struct Server {
 
 impl Server {
     pub fn new(options: &Options, inputs: SyncSender<Input>) -> io::Result<Server> {
-        let publishers = options.publishers.map(|publisher| publisher.settings);
+        let publishers = options.publishers.each_ref();
+        let publishers = publishers.map(|publisher| publisher.link.clone());
         Ok(Server {
-            core: Core::new(options.front, publishers),
+            core: Core::new(options.front.clone(), publishers),
+            card: options.card,
             connections: HashMap::new(),
             inputs,
             next_serial: 0,
@@ -148,7 +152,7 @@ impl Server {
         serial: u64,
         stream: &Arc<TcpStream>,
     ) -> io::Result<(Connection, Opening)> {
-        let opening = self.opening(stream)?;
+        let opening = self.opening(peer, stream)?;
         let owner = Owner {
             peer,
             serial,
@@ -163,9 +167,12 @@ impl Server {
         Ok((connection, opening))
     }
 
-    fn opening(&mut self, stream: &TcpStream) -> io::Result<Opening> {
-        let mut random = [0; 16];
+    fn opening(&mut self, peer: Peer, stream: &TcpStream) -> io::Result<Opening> {
+        let (mut random, mut for_card) = ([0; 16], [0; 32]);
         self.random.read_exact(&mut random)?;
+        self.random.read_exact(&mut for_card)?;
+        let kind = self.card.filter(|_| self.core.may_cipher(peer));
+        let card = kind.map(|kind| kind.card(for_card)).transpose()?;
         let (own, peer) = (stream.local_addr()?, stream.peer_addr()?);
         let pid = std::process::id() as u16;
         Ok(Opening {
@@ -173,6 +180,7 @@ impl Server {
             own: net_pid(own, pid, self.start),
             // Of a peer only the address is known.
             peer: net_pid(peer, 0, 0),
+            card,
         })
     }
 
@@ -188,6 +196,10 @@ impl Server {
                     }
                 }
                 Action::Close(peer) => self.drop_connection(peer),
+                // The relay goes on if nobody reads that.
+                Action::Warn(peer, warning) => {
+                    drop(writeln!(io::stderr(), "relay: {peer}: {warning}"))
+                }
             }
         }
     }

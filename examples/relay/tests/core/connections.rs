@@ -138,7 +138,7 @@ fn connections_that_are_not_taken_are_counted() {
     let mut world = World::new();
     world.tell(Event::TurnedAway);
     // There is no such link.
-    world.tell(Event::Connected(Peer::Front(32), world::OPENING));
+    world.tell(Event::Connected(Peer::Front(32), world::opening()));
     assert_eq!(world.closed, [Peer::Front(32)]);
     let counts = world.core.counts();
     assert_eq!((counts.turned_away, counts.dropped), (2, 0));

@@ -1,5 +1,7 @@
 //! The relay's core without a network, step by step.
 
+mod cipher;
+mod cipher_faults;
 mod connections;
 #[path = "../other_end/mod.rs"]
 mod other_end;

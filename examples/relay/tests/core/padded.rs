@@ -43,21 +43,33 @@ fn answers_come_back_wherever_links_are_padded() {
     }
 }
 
-/// Whom an action sends a packet, and the bytes behind it: of a padded link,
-/// behind its zeros.
-fn behind(action: &Action, padded: bool) -> (Peer, &[u8]) {
+/// Whom an action sends packets, how many, and the bytes behind the last: of a
+/// padded link, behind its zeros.
+fn sent(action: &Action, padded: bool) -> (Peer, usize, &[u8]) {
     let Action::Send(peer, sent) = action else {
         panic!("no packet: {action:?}");
     };
-    let length = u32::from_le_bytes(*sent.first_chunk().expect("a length")) as usize;
-    match padded {
-        true => (*peer, &sent[length.next_multiple_of(4)..]),
-        false => (*peer, &sent[length..]),
+    let (mut rest, mut count) = (&sent[..], 0);
+    while let Some(length) = rest.first_chunk().filter(|chunk| **chunk != WORD) {
+        let length = u32::from_le_bytes(*length) as usize;
+        rest = match padded {
+            true => &rest[length.next_multiple_of(4)..],
+            false => &rest[length..],
+        };
+        count += 1;
     }
+    (*peer, count, rest)
+}
+
+/// The bytes behind the one packet that an action sends on a padded link.
+fn behind(action: &Action) -> (Peer, &[u8]) {
+    let (peer, count, words) = sent(action, true);
+    assert_eq!(count, 1);
+    (peer, words)
 }
 
 #[test]
-fn an_event_has_one_flush_for_each_peer() {
+fn an_event_has_one_output_and_one_flush_for_each_peer() {
     for padded in [true, false] {
         let mut world = world(padded, padded);
         let mut lump = Vec::new();
@@ -67,15 +79,14 @@ fn an_event_has_one_flush_for_each_peer() {
         lump.extend(world.bytes(Peer::Front(0), Outgoing::Ping(9)));
         let actions = world.handle(Event::Bytes(Peer::Front(0), &lump));
         // Packets of 39, 39 and 41 bytes, and a Pong of 24.
-        let words = if padded { [0, 2, 3, 2] } else { [0; 4] };
+        let words = if padded { [3, 2, 2] } else { [0; 3] };
         let words = words.map(|words| WORD.repeat(words));
         let expected = [
-            (Peer::Publisher(2), &words[0][..]),
-            (Peer::Publisher(3), &words[1]),
-            (Peer::Publisher(2), &words[2]),
-            (Peer::Front(0), &words[3]),
+            (Peer::Publisher(2), 2, &words[0][..]),
+            (Peer::Publisher(3), 1, &words[1]),
+            (Peer::Front(0), 1, &words[2]),
         ];
-        let sent = actions.iter().map(|action| behind(action, padded));
+        let sent = actions.iter().map(|action| sent(action, padded));
         assert!(sent.eq(expected), "{actions:?}");
     }
 }
@@ -91,14 +102,14 @@ fn a_connection_is_flushed_before_it_ends() {
     let cancel = world.front_bytes(0, Message::Cancel(1));
     let actions = world.handle(Event::Bytes(Peer::Front(0), &cancel));
     let peer = Peer::Publisher(2);
-    assert_eq!(behind(&actions[0], true), (peer, &WORD.repeat(2)[..]));
+    assert_eq!(behind(&actions[0]), (peer, &WORD.repeat(2)[..]));
     assert_eq!(actions[1..], [Action::Close(peer)]);
 
     let peer = Peer::Front(0);
     let ping = world.bytes(peer, Outgoing::Ping(9));
     let repeated = world.front_bytes(0, ask(2, 3));
     let actions = world.handle(Event::Bytes(peer, &[ping, repeated].concat()));
-    assert_eq!(behind(&actions[0], true), (peer, &WORD.repeat(2)[..]));
+    assert_eq!(behind(&actions[0]), (peer, &WORD.repeat(2)[..]));
     assert_eq!(actions[1], Action::Close(peer));
 }
 
@@ -108,10 +119,10 @@ fn blocks_begin_with_our_handshake() {
     let peer = Peer::Publisher(5);
     world.tell(Event::Closed(peer));
     let mut end = OtherEnd::with_padded(Side::Server, true, true);
-    let mut actions = world.handle(Event::Connected(peer, world::OPENING));
+    let mut actions = world.handle(Event::Connected(peer, world::opening()));
     // Behind our Nonce there is no word, and one behind a Handshake of 44 bytes.
     for words in [0, 1] {
-        assert_eq!(behind(&actions[0], true), (peer, &WORD.repeat(words)[..]));
+        assert_eq!(behind(&actions[0]), (peer, &WORD.repeat(words)[..]));
         let Action::Send(_, sent) = &actions[0] else {
             panic!("no packet: {actions:?}");
         };

@@ -1,38 +1,64 @@
 //! A core with all its connections open, and the second program at the other
 //! end of each.
 
-use crate::other_end::{clock, Got, OtherEnd};
+use crate::other_end::{card, clock, Got, OtherEnd, Secrets};
 use reference::link::Outgoing;
 use reference::message::{Invoke, Message, Side};
-use relay::{NetPid, Settings, LINKS, PUBLISHERS};
+use relay::{Address, Addresses, NetPid, Settings, LINKS, PUBLISHERS};
 use relay_example::core::Core;
-use relay_example::event::{Action, Event, Opening, Peer};
-use relay_example::settings;
+use relay_example::event::{Action, Event, Opening, Peer, Warning};
+use relay_example::settings::{self, LinkSettings};
 use std::collections::VecDeque;
 
-const NOBODY: NetPid = NetPid {
-    ip: 0,
-    port: 0,
+/// The relay's end of every connection, and the other one.
+const OWN: NetPid = NetPid {
+    ip: 0x0a00_0001,
+    port: 2400,
     pid: 0,
     start: 0,
 };
-
-pub const OPENING: Opening = Opening {
-    random: [5; 16],
-    own: NOBODY,
-    peer: NOBODY,
+const THEIRS: NetPid = NetPid {
+    ip: 0x0a00_0002,
+    port: 50_000,
+    ..OWN
 };
+
+fn address(pid: NetPid) -> Address {
+    Address {
+        ip: pid.ip,
+        port: pid.port,
+    }
+}
+
+/// Of a connection whose link goes clear.
+pub fn opening() -> Opening {
+    Opening {
+        random: [5; 16],
+        own: OWN,
+        peer: THEIRS,
+        card: None,
+    }
+}
+
+fn opening_with_card() -> Opening {
+    Opening {
+        card: Some(card()),
+        ..opening()
+    }
+}
 
 type Heard = Message<Vec<u8>>;
 
 pub struct World {
     pub core: Core,
-    /// Whether the links to the front ends are padded, and those to each publisher.
-    padded: (bool, [bool; PUBLISHERS as usize]),
+    /// Of the links to the front ends, and to each publisher.
+    links: (LinkSettings, [LinkSettings; PUBLISHERS as usize]),
     fronts: Vec<(OtherEnd, Vec<Heard>)>,
     publishers: Vec<(OtherEnd, Vec<Heard>)>,
     /// Whom the core closed, in order.
     pub closed: Vec<Peer>,
+    /// Whom it warned of.
+    pub warned: Vec<(Peer, Warning)>,
     /// Gets bytes, and says nothing any more.
     pub silent: Option<Peer>,
 }
@@ -48,18 +74,20 @@ impl World {
     }
 
     /// With these settings of the links to the front ends and to the publishers.
-    pub fn with(front: Settings, publishers: [Settings; PUBLISHERS as usize]) -> World {
+    pub fn with<L: Into<LinkSettings>>(front: L, publishers: [L; PUBLISHERS as usize]) -> World {
+        let (front, publishers) = (front.into(), publishers.map(L::into));
         let ends = |count, side| {
             (0..count)
                 .map(|_| (OtherEnd::new(side, true), vec![]))
                 .collect()
         };
         let mut world = World {
-            core: Core::new(front, publishers),
-            padded: (front.padded, publishers.map(|settings| settings.padded)),
+            core: Core::new(front.clone(), publishers.clone()),
+            links: (front, publishers),
             fronts: ends(LINKS, Side::Client),
             publishers: ends(PUBLISHERS, Side::Server),
             closed: Vec::new(),
+            warned: Vec::new(),
             silent: None,
         };
         for publisher in 0..PUBLISHERS {
@@ -80,17 +108,34 @@ impl World {
 
     /// A new connection, opened.
     pub fn connect(&mut self, peer: Peer) {
-        let (side, padded) = match peer {
-            Peer::Front(_) => (Side::Client, self.padded.0),
-            Peer::Publisher(publisher) => (Side::Server, self.padded.1[usize::from(publisher)]),
+        let (side, link) = match peer {
+            Peer::Front(_) => (Side::Client, &self.links.0),
+            Peer::Publisher(publisher) => (Side::Server, &self.links.1[usize::from(publisher)]),
         };
-        assert!(self.opens(peer, OtherEnd::with_padded(side, true, padded)));
+        let LinkSettings { settings, key } = link;
+        let end = match key {
+            None => OtherEnd::with_padded(side, true, settings.padded),
+            Some(key) => {
+                let secrets = Secrets::new(settings.cipher, key.bytes());
+                OtherEnd::with_cipher(side, true, 2, secrets)
+            }
+        };
+        assert!(self.opens(peer, end));
     }
 
     /// A new connection with this other end; whether a Handshake came there.
     pub fn opens(&mut self, peer: Peer, end: OtherEnd) -> bool {
+        let mut end = end;
+        end.set_addresses(Addresses {
+            own: address(THEIRS),
+            peer: address(OWN),
+        });
         self.end(peer).0 = end;
-        self.tell(Event::Connected(peer, OPENING));
+        let opening = match self.core.may_cipher(peer) {
+            true => opening_with_card(),
+            false => opening(),
+        };
+        self.tell(Event::Connected(peer, opening));
         self.flush(peer);
         self.end(peer).0.open
     }
@@ -119,6 +164,7 @@ impl World {
                     }
                 }
                 Action::Close(peer) => self.closed.push(peer),
+                Action::Warn(peer, warning) => self.warned.push((peer, warning)),
             }
         }
         let fronts = (0..LINKS).map(Peer::Front);
@@ -150,6 +196,21 @@ impl World {
         self.bytes(Peer::Front(link), Outgoing::Message(message))
     }
 
+    /// The same with the words of a flush, as a ciphered link needs them.
+    pub fn front_bytes_flushed(&mut self, link: u8, message: Message<&[u8]>) -> Vec<u8> {
+        self.bytes_flushed(Peer::Front(link), Outgoing::Message(message))
+    }
+
+    pub fn publisher_bytes_flushed(&mut self, publisher: u8, message: Message<&[u8]>) -> Vec<u8> {
+        self.bytes_flushed(Peer::Publisher(publisher), Outgoing::Message(message))
+    }
+
+    pub fn bytes_flushed(&mut self, peer: Peer, outgoing: Outgoing) -> Vec<u8> {
+        let end = &mut self.end(peer).0;
+        end.send(outgoing);
+        hand_over(end)
+    }
+
     pub fn publisher_bytes(&mut self, publisher: u8, message: Message<&[u8]>) -> Vec<u8> {
         self.bytes(Peer::Publisher(publisher), Outgoing::Message(message))
     }
@@ -157,7 +218,7 @@ impl World {
     pub fn bytes(&mut self, peer: Peer, outgoing: Outgoing) -> Vec<u8> {
         let end = &mut self.end(peer).0;
         end.send(outgoing);
-        std::mem::take(&mut end.output)
+        end.take_output()
     }
 
     pub fn publisher_says(&mut self, publisher: u8, message: Message<&[u8]>) {
@@ -185,7 +246,7 @@ impl World {
 /// All that is to go to the core now, flushed.
 pub fn hand_over(end: &mut OtherEnd) -> Vec<u8> {
     end.flush();
-    std::mem::take(&mut end.output)
+    end.take_output()
 }
 
 /// The number of an invoke.

@@ -3,6 +3,7 @@
 
 use crate::claims::{Claim, Claims};
 use crate::other_end::Got;
+use crate::profile::Profile;
 use crate::socket::Socket;
 use crate::tally::Tally;
 use reference::generator::Generator;
@@ -38,8 +39,8 @@ const ENDINGS: [Ending; 4] = [
 
 pub struct Front {
     pub front: u8,
-    /// Whether its link is padded.
-    padded: bool,
+    /// How its link is.
+    profile: Profile,
     pub life: u32,
     pub next_serial: u64,
     pub generator: Generator,
@@ -61,14 +62,14 @@ pub struct Life {
 /// Plays front end `front`; hands back its counts, or the first fault.
 pub fn play(
     front: u8,
-    padded: bool,
+    profile: Profile,
     relay: SocketAddr,
     seed: u64,
     deadline: Instant,
 ) -> Result<Tally, String> {
     let mut player = Front {
         front,
-        padded,
+        profile,
         life: 0,
         next_serial: 0,
         generator: Generator::new(seed ^ u64::from(front) << 32),
@@ -107,7 +108,8 @@ impl Front {
     fn connect(&mut self, relay: SocketAddr, deadline: Instant) -> Result<Life, String> {
         while Instant::now() < deadline {
             let stream = TcpStream::connect(relay).map_err(|error| format!("connect: {error}"))?;
-            let opened = Socket::open(stream, Side::Client, self.padded, &mut self.generator);
+            let end = self.profile.end(Side::Client, 0, &mut self.generator);
+            let opened = Socket::open_end(stream, end, &mut self.generator);
             if let Some(socket) = opened? {
                 self.tally.add("connections", 1);
                 // Some want more than their share, so that the table is full.

@@ -2,14 +2,16 @@
 //! publishers that the second program plays. Answers come in any order, late,
 //! twice, unreadable or never; requests are cancelled; connections break on both
 //! sides; packets are cut anywhere. Each front end checks each answer. There is
-//! a run for each choice of the sides whose links are padded.
+//! a run for each choice of the sides whose links are padded, and two with links
+//! that go through the cipher.
 //!
 //! Beside these runs, with its own relay each, what happens step by step: to old
-//! publishers, to what cannot be read, to slow readers, to slow openings, and on
-//! links that are padded at both ends or at one.
+//! publishers, to what cannot be read, to slow readers, to slow openings, on links
+//! that are padded at both ends or at one, and on ciphered ones.
 
 mod answering;
 mod asking;
+mod cipher;
 mod claims;
 mod front;
 mod old_publisher;
@@ -18,6 +20,7 @@ mod openings;
 mod other_end;
 mod padded;
 mod process;
+mod profile;
 mod publisher;
 mod request;
 mod slow_readers;
@@ -29,7 +32,9 @@ mod unreadable;
 mod unreadable_messages;
 
 use process::RelayProcess;
+use profile::{Profile, CIPHERS};
 use publisher::Publisher;
+use relay::Cipher;
 use std::sync::atomic::{AtomicBool, Ordering};
 use std::sync::Arc;
 use std::thread;
@@ -46,52 +51,72 @@ const LOWEST: [u8; PUBLISHERS as usize] = [0, 1, 2, 2, 0, 1, 2, 2];
 /// Everybody gives up then, with what was still open.
 const PATIENCE: Duration = Duration::from_secs(40);
 
-/// The sides whose links are padded: to all front ends, to all publishers.
+/// How the links are: to all front ends, to each publisher.
 #[derive(Clone, Copy, Debug)]
-struct Padded {
-    fronts: bool,
-    publishers: bool,
+struct Links {
+    fronts: Profile,
+    publishers: [Profile; PUBLISHERS as usize],
+}
+
+impl Links {
+    fn padded(fronts: bool, publishers: bool) -> Links {
+        let profile = |padded| match padded {
+            true => Profile::Padded,
+            false => Profile::Plain,
+        };
+        Links {
+            fronts: profile(fronts),
+            publishers: [profile(publishers); PUBLISHERS as usize],
+        }
+    }
 }
 
 #[test]
 fn every_answer_finds_its_request() {
-    run(Padded {
-        fronts: false,
-        publishers: false,
-    });
+    run(Links::padded(false, false));
 }
 
 #[test]
 fn over_padded_links_too() {
-    run(Padded {
-        fronts: true,
-        publishers: true,
-    });
+    run(Links::padded(true, true));
 }
 
 #[test]
 fn with_padded_links_to_publishers_alone_too() {
-    run(Padded {
-        fronts: false,
-        publishers: true,
-    });
+    run(Links::padded(false, true));
 }
 
 #[test]
 fn with_padded_links_to_front_ends_alone_too() {
-    run(Padded {
-        fronts: true,
-        publishers: false,
+    run(Links::padded(true, false));
+}
+
+/// Publishers in all three settings, front ends as they like it.
+#[test]
+fn through_the_cipher_too() {
+    run(Links {
+        fronts: Profile::Cipher(Cipher::Either),
+        publishers: std::array::from_fn(|n| Profile::Cipher(CIPHERS[n % 3])),
     });
 }
 
-fn run(padded: Padded) {
+#[test]
+fn through_nothing_but_the_cipher_too() {
+    let only = Profile::Cipher(Cipher::CipherOnly);
+    run(Links {
+        fronts: only,
+        publishers: [only; PUBLISHERS as usize],
+    });
+}
+
+fn run(links: Links) {
     let deadline = Instant::now() + PATIENCE;
     let seed = std::env::var("SEED").map_or(SEED, |seed| seed.parse().expect("a number"));
     let publishers: Vec<Publisher> = (0..PUBLISHERS)
-        .map(|publisher| Publisher::new(publisher, padded.publishers, seed))
+        .zip(links.publishers.into_iter().zip(LOWEST))
+        .map(|(publisher, (profile, lowest))| Publisher::new(publisher, profile, lowest, seed))
         .collect();
-    let relay = start(padded, &publishers);
+    let relay = start(links, &publishers);
 
     let done = Arc::new(AtomicBool::new(false));
     let publishers: Vec<_> = publishers
@@ -102,7 +127,7 @@ fn run(padded: Padded) {
         })
         .collect();
     let address = relay.address();
-    let play = move |front| front::play(front, padded.fronts, address, seed, deadline);
+    let play = move |front| front::play(front, links.fronts, address, seed, deadline);
     let fronts: Vec<_> = (0..FRONTS)
         .map(|front| thread::spawn(move || play(front)))
         .collect();
@@ -117,26 +142,18 @@ fn run(padded: Padded) {
         tally.join(thread, &mut faults);
     }
     let counts = relay.counts_when_quiet();
-    println!("{padded:?}, front ends and publishers:\n{tally}");
-    println!("{padded:?}, the relay:\n{counts}");
+    println!("{links:?}, front ends and publishers:\n{tally}");
+    println!("{links:?}, the relay:\n{counts}");
     assert!(faults.is_empty(), "{}", faults.join("\n"));
     check(&tally, &counts);
     check_all_happened(&tally, &counts);
 }
 
-fn start(padded: Padded, publishers: &[Publisher]) -> RelayProcess {
-    let words = publishers.iter().zip(LOWEST).map(|(publisher, lowest)| {
-        let address = publisher.address();
-        match padded.publishers {
-            true => format!("{address},lowest={lowest},padded=yes"),
-            false => format!("{address},lowest={lowest}"),
-        }
-    });
-    let options = match padded.fronts {
-        true => "--retry-ms 50 --ping-ms 2000 --padded-fronts",
-        false => "--retry-ms 50 --ping-ms 2000",
-    };
-    RelayProcess::start(options, &words.collect::<Vec<_>>())
+fn start(links: Links, publishers: &[Publisher]) -> RelayProcess {
+    let words: Vec<String> = publishers.iter().map(Publisher::word).collect();
+    let fronts = links.fronts.options();
+    let options = format!("--retry-ms 50 --ping-ms 2000 {} {fronts}", profile::card());
+    RelayProcess::start(&options, &words)
 }
 
 /// How a request of a front end ends.
@@ -167,7 +184,15 @@ fn check(tally: &Tally, counts: &Tally) {
         "errors out of nothing"
     );
     assert_eq!(tally.get("link repeated"), counts.get("repeated"));
-    assert_eq!(tally.get("turned away"), counts.get("turned_away"));
+    // A connection to a publisher that leaves before it is set up is counted too.
+    let turned_away = counts.get("turned_away") - tally.get("turned away");
+    let left = [
+        "publisher disconnects",
+        "publisher restarts",
+        "publisher fins",
+    ];
+    let left: u64 = left.iter().map(|name| tally.get(name)).sum();
+    assert!(turned_away <= left, "{turned_away} more turned away");
     // A cancel that found nothing in flight followed an answer.
     assert!(
         tally.get("cancelled") <= counts.get("cancelled"),

@@ -4,7 +4,7 @@ use crate::tally::Tally;
 use std::fs;
 use std::io::{BufRead, BufReader, Write};
 use std::net::SocketAddr;
-use std::process::{Child, ChildStdin, ChildStdout, Command, Stdio};
+use std::process::{Child, ChildStderr, ChildStdin, ChildStdout, Command, Stdio};
 use std::sync::mpsc::{channel, RecvTimeoutError, Sender};
 use std::sync::{Arc, Mutex};
 use std::thread;
@@ -25,6 +25,8 @@ pub struct Size {
 
 pub struct RelayProcess {
     child: Arc<Mutex<Child>>,
+    /// On standard error.
+    said: Arc<Mutex<Vec<String>>>,
     _in_use: Sender<()>,
     pipes: Mutex<(ChildStdin, BufReader<ChildStdout>)>,
     address: SocketAddr,
@@ -40,10 +42,12 @@ impl RelayProcess {
             .args(publishers)
             .stdin(Stdio::piped())
             .stdout(Stdio::piped())
+            .stderr(Stdio::piped())
             .spawn()
             .expect("the relay's program");
         let stdin = child.stdin.take().expect("its input");
         let mut stdout = BufReader::new(child.stdout.take().expect("its output"));
+        let said = keep(child.stderr.take().expect("its errors"));
         let child = Arc::new(Mutex::new(child));
         RELAYS.lock().expect("the relays").push(Arc::clone(&child));
         let in_use = limit_use();
@@ -51,6 +55,7 @@ impl RelayProcess {
         let address = line.strip_prefix("listening on ").expect("its address");
         RelayProcess {
             child,
+            said,
             _in_use: in_use,
             pipes: Mutex::new((stdin, stdout)),
             address: address.parse().expect("its address"),
@@ -76,6 +81,19 @@ impl RelayProcess {
     pub fn counts_when_quiet(&self) -> Tally {
         let is_quiet = |counts: &Tally| counts.get("in_flight") == 0;
         self.counts_when(is_quiet, Duration::from_secs(5))
+    }
+
+    /// What it said on standard error, once there are so many lines or the time
+    /// is over.
+    pub fn said(&self, lines: usize, patience: Duration) -> Vec<String> {
+        let deadline = Instant::now() + patience;
+        loop {
+            let said = self.said.lock().expect("its lines").clone();
+            if said.len() >= lines || Instant::now() > deadline {
+                return said;
+            }
+            thread::sleep(Duration::from_millis(20));
+        }
     }
 
     /// How many threads it has now, and how much memory, in MB.
@@ -118,6 +136,19 @@ fn limit_use() -> Sender<()> {
         }
     });
     in_use
+}
+
+/// Keeps its lines, and shows them.
+fn keep(stderr: ChildStderr) -> Arc<Mutex<Vec<String>>> {
+    let said = Arc::new(Mutex::new(Vec::new()));
+    let lines = Arc::clone(&said);
+    thread::spawn(move || {
+        for line in BufReader::new(stderr).lines().map_while(Result::ok) {
+            eprintln!("{line}");
+            lines.lock().expect("its lines").push(line);
+        }
+    });
+    said
 }
 
 fn end(child: &Mutex<Child>) {

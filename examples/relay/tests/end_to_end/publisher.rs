@@ -2,6 +2,7 @@
 //! connection and comes back, and checks everything that it gets.
 
 use crate::other_end::Got;
+use crate::profile::Profile;
 use crate::request::Request;
 use crate::socket::Socket;
 use crate::tally::Tally;
@@ -19,8 +20,9 @@ const FIN_PATIENCE: Duration = Duration::from_secs(5);
 
 pub struct Publisher {
     pub publisher: u8,
-    /// Whether its link is padded.
-    padded: bool,
+    /// How its link is, and the lowest version there.
+    profile: Profile,
+    lowest: u8,
     address: SocketAddr,
     listener: Option<TcpListener>,
     pub generator: Generator,
@@ -51,11 +53,12 @@ pub struct Life {
 }
 
 impl Publisher {
-    pub fn new(publisher: u8, padded: bool, seed: u64) -> Publisher {
+    pub fn new(publisher: u8, profile: Profile, lowest: u8, seed: u64) -> Publisher {
         let listener = TcpListener::bind("127.0.0.1:0").expect("a port of the system");
         Publisher {
             publisher,
-            padded,
+            profile,
+            lowest,
             address: listener.local_addr().expect("its address"),
             listener: Some(listener),
             generator: Generator::new(seed ^ u64::from(publisher) << 40),
@@ -66,8 +69,12 @@ impl Publisher {
         }
     }
 
-    pub fn address(&self) -> SocketAddr {
-        self.address
+    /// Its word on the relay's command line.
+    pub fn word(&self) -> String {
+        let Publisher {
+            address, lowest, ..
+        } = self;
+        format!("{address},lowest={lowest}{}", self.profile.word())
     }
 
     /// Plays until `done`; hands back its counts, or the first fault.
@@ -104,7 +111,10 @@ impl Publisher {
             return Ok(None);
         };
         // None if the relay has given it up while nobody accepted it.
-        let socket = Socket::open(stream, Side::Server, self.padded, &mut self.generator)?;
+        let end = self
+            .profile
+            .end(Side::Server, self.lowest, &mut self.generator);
+        let socket = Socket::open_end(stream, end, &mut self.generator)?;
         Ok(socket.map(|socket| Life {
             socket,
             open: BTreeMap::new(),

@@ -3,9 +3,9 @@
 
 use crate::other_end::{Got, OtherEnd};
 use reference::generator::Generator;
-use reference::message::Side;
+use relay::{Address, Addresses};
 use std::io::{self, ErrorKind, Read, Write};
-use std::net::{Shutdown, TcpStream};
+use std::net::{Shutdown, SocketAddr, TcpStream};
 use std::thread;
 use std::time::{Duration, Instant};
 
@@ -28,18 +28,8 @@ pub struct Socket {
 }
 
 impl Socket {
-    /// Opens the link; none if the other side ends the connection before.
-    pub fn open(
-        stream: TcpStream,
-        side: Side,
-        padded: bool,
-        generator: &mut Generator,
-    ) -> Result<Option<Socket>, String> {
-        let end = OtherEnd::with_padded(side, generator.below(2) == 0, padded);
-        Socket::open_end(stream, end, generator)
-    }
-
-    /// The same with this link at our end.
+    /// Opens the link with this end; none if the other side ends the connection
+    /// before.
     pub fn open_end(
         stream: TcpStream,
         end: OtherEnd,
@@ -50,6 +40,8 @@ impl Socket {
             .and_then(|()| stream.set_nonblocking(false))
             .and_then(|()| stream.set_read_timeout(Some(READ_TIMEOUT)));
         set.map_err(|error| format!("a socket's options: {error}"))?;
+        let mut end = end;
+        end.set_addresses(addresses(&stream));
         let mut socket = Socket {
             stream,
             end,
@@ -131,7 +123,7 @@ impl Socket {
 
     /// Writes what is to go out, whole or in parts.
     pub fn write_out(&mut self, generator: &mut Generator) {
-        let output = std::mem::take(&mut self.end.output);
+        let output = self.end.take_output();
         let mut rest = &output[..];
         let mut parts = match generator.below(4) {
             0 | 1 => 1,
@@ -171,6 +163,21 @@ impl Socket {
     /// Ends the connection at once.
     pub fn drop_now(self) {
         let _ = self.stream.shutdown(Shutdown::Both);
+    }
+}
+
+/// Of an end that has gone already they are not needed any more.
+fn addresses(stream: &TcpStream) -> Addresses {
+    let address = |address: io::Result<SocketAddr>| match address {
+        Ok(SocketAddr::V4(address)) => Address {
+            ip: u32::from(*address.ip()),
+            port: address.port(),
+        },
+        _ => Address::default(),
+    };
+    Addresses {
+        own: address(stream.local_addr()),
+        peer: address(stream.peer_addr()),
     }
 }
 

@@ -3,6 +3,7 @@
 
 use crate::other_end::{Got, OtherEnd};
 use crate::process::RelayProcess;
+use crate::profile::Profile;
 use crate::socket::Socket;
 use reference::generator::Generator;
 use reference::link::Outgoing;
@@ -10,6 +11,8 @@ use reference::message::{Invoke, Message, Outcome, Side};
 use std::io::Read;
 use std::net::{TcpListener, TcpStream};
 use std::time::{Duration, Instant};
+
+type Heard = Message<Vec<u8>>;
 
 /// For one thing to come.
 const PATIENCE: Duration = Duration::from_secs(15);
@@ -56,7 +59,13 @@ pub fn padded_front(relay: &RelayProcess) -> Socket {
 
 fn open_front(relay: &RelayProcess, padded: bool) -> Socket {
     let mut generator = Generator::new(1);
-    let opened = Socket::open(connect(relay), Side::Client, padded, &mut generator);
+    let profile = if padded {
+        Profile::Padded
+    } else {
+        Profile::Plain
+    };
+    let end = profile.end(Side::Client, 0, &mut generator);
+    let opened = Socket::open_end(connect(relay), end, &mut generator);
     opened.expect("an opening").expect("an open link")
 }
 
@@ -105,7 +114,7 @@ fn take(socket: &mut Socket, is_enough: impl Fn(&[Got]) -> bool) -> Vec<Got> {
     got
 }
 
-fn message(got: Got) -> Message<Vec<u8>> {
+fn message(got: Got) -> Heard {
     match got {
         Got::Message(message) => message,
         Got::Pong => panic!("a Pong that was not awaited"),
@@ -113,15 +122,32 @@ fn message(got: Got) -> Message<Vec<u8>> {
 }
 
 /// Exactly so many messages; more must not have come with them.
-pub fn messages(socket: &mut Socket, count: usize) -> Vec<Message<Vec<u8>>> {
+pub fn messages(socket: &mut Socket, count: usize) -> Vec<Heard> {
     let got = take(socket, |got| got.len() >= count);
     assert_eq!(got.len(), count, "{got:?}");
     got.into_iter().map(message).collect()
 }
 
+/// The first message that comes to one of two ends.
+pub fn messages_of_two(one: &mut Socket, other: &mut Socket) -> (Option<Heard>, Option<Heard>) {
+    let deadline = Instant::now() + PATIENCE;
+    while Instant::now() < deadline {
+        let [mut first, mut second] = [&mut *one, &mut *other].map(|socket| {
+            flush(socket);
+            socket.pump().expect("what may be received")
+        });
+        assert!(first.len() + second.len() < 2, "{first:?}, {second:?}");
+        let got = (first.pop().map(message), second.pop().map(message));
+        if got != (None, None) {
+            return got;
+        }
+    }
+    (None, None)
+}
+
 /// The messages that come before the Pong to a Ping: whatever the relay sent
 /// before it saw the Ping.
-pub fn all_before_pong(socket: &mut Socket) -> Vec<Message<Vec<u8>>> {
+pub fn all_before_pong(socket: &mut Socket) -> Vec<Heard> {
     socket.end.send(Outgoing::Ping(7));
     let mut got = take(socket, |got| got.last() == Some(&Got::Pong));
     got.pop();
@@ -129,7 +155,7 @@ pub fn all_before_pong(socket: &mut Socket) -> Vec<Message<Vec<u8>>> {
 }
 
 /// The messages that come before the relay ends the connection.
-pub fn all_before_end(socket: &mut Socket) -> Vec<Message<Vec<u8>>> {
+pub fn all_before_end(socket: &mut Socket) -> Vec<Heard> {
     let deadline = Instant::now() + PATIENCE;
     let mut got = Vec::new();
     flush(socket);
@@ -158,7 +184,7 @@ pub fn answer(socket: &mut Socket, number: i64, payload: &[u8]) {
 }
 
 /// The number and payload of a request.
-pub fn asked(message: Message<Vec<u8>>) -> (i64, Vec<u8>) {
+pub fn asked(message: Heard) -> (i64, Vec<u8>) {
     match message {
         Message::Invoke(invoke) => (invoke.number, invoke.payload),
         other => panic!("no request: {other:?}"),
@@ -166,7 +192,7 @@ pub fn asked(message: Message<Vec<u8>>) -> (i64, Vec<u8>) {
 }
 
 /// The number and code of an error, and its number alone for a page.
-pub fn code(message: &Message<Vec<u8>>) -> (i64, Option<i32>) {
+pub fn code(message: &Heard) -> (i64, Option<i32>) {
     match message {
         Message::Result(number, Outcome::Error(code, _)) => (*number, Some(*code)),
         Message::Result(number, Outcome::Payload(_)) => (*number, None),

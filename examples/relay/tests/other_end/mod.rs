@@ -2,14 +2,23 @@
 //! that the two ends of every link are different implementations. No sockets:
 //! bytes in, bytes out. It opens the link and answers Pings by itself. On a padded
 //! link it looks at whole blocks only, as if a cipher were between: what the
-//! relay does not flush does not arrive.
+//! relay does not flush does not arrive. On a link that may cipher there is one
+//! between (`tunnel`), which is not the library's (`aes`).
+
+mod aes;
+mod lent;
+mod tunnel;
+
+pub use lent::*;
+pub use tunnel::Secrets;
 
 use reference::link::packet::{whole, HANDSHAKE, NONCE, PING, PONG};
 use reference::link::{Link, Outgoing, Received, Settings};
 use reference::message::{self, Message, Side};
 use reference::numbers::read_u32;
 use relay::checksum::crc32;
-use std::time::{SystemTime, UNIX_EPOCH};
+use relay::Addresses;
+use tunnel::Tunnel;
 
 /// What came that the link does not deal with itself.
 #[derive(Debug, PartialEq, Eq)]
@@ -24,36 +33,61 @@ pub struct OtherEnd {
     padded: bool,
     /// Of its Nonce, if not the second program's own.
     version: Option<u8>,
+    /// Of an end that may cipher, and what came and is not clear yet.
+    tunnel: Option<Tunnel>,
+    wire: Vec<u8>,
+    /// The same link, were it padded: a client learns after its Nonce whether it is.
+    if_ciphered: Option<Link>,
     input: Vec<u8>,
     /// How many bytes the link has taken since the relay's Nonce, once that came.
     taken: Option<usize>,
-    /// Packets that are still to go to the relay.
+    /// Packets that are still to go to the relay, clear; `take_output` has them as
+    /// they go.
     pub output: Vec<u8>,
+    /// How many of the output's bytes are our Nonce's.
+    nonce: usize,
     pub open: bool,
+    has_their_nonce: bool,
     /// Pings of the relay that were answered.
     pub answered_pings: u64,
 }
 
 impl OtherEnd {
     pub fn new(side: Side, crc32c: bool) -> OtherEnd {
-        OtherEnd::begin(Settings::new(side, crc32c), None)
+        OtherEnd::begin(Settings::new(side, crc32c), None, None)
     }
 
     /// An end whose Nonce has this version.
     pub fn of_version(side: Side, crc32c: bool, version: u8) -> OtherEnd {
-        OtherEnd::begin(Settings::new(side, crc32c), Some(version))
+        OtherEnd::begin(Settings::new(side, crc32c), Some(version), None)
     }
 
     /// An end of a link that is padded, or not.
     pub fn with_padded(side: Side, crc32c: bool, padded: bool) -> OtherEnd {
         let settings = Settings::new(side, crc32c);
-        OtherEnd::begin(Settings { padded, ..settings }, None)
+        OtherEnd::begin(Settings { padded, ..settings }, None, None)
+    }
+
+    /// An end of a link that may cipher, whose Nonce has this version.
+    pub fn with_cipher(side: Side, crc32c: bool, version: u8, secrets: Secrets) -> OtherEnd {
+        let tunnel = Tunnel::new(side, secrets, card());
+        OtherEnd::begin(Settings::new(side, crc32c), Some(version), Some(tunnel))
     }
 
     /// A client begins the opening.
-    fn begin(settings: Settings, version: Option<u8>) -> OtherEnd {
+    fn begin(settings: Settings, version: Option<u8>, tunnel: Option<Tunnel>) -> OtherEnd {
+        let padded = Settings {
+            padded: true,
+            ..settings
+        };
         let mut end = OtherEnd {
             link: Link::set_up(settings).expect("a link"),
+            if_ciphered: tunnel
+                .is_some()
+                .then(|| Link::set_up(padded).expect("a link")),
+            tunnel,
+            wire: Vec::new(),
+            nonce: 0,
             side: settings.side,
             padded: settings.padded,
             version,
@@ -61,10 +95,11 @@ impl OtherEnd {
             taken: None,
             output: Vec::new(),
             open: false,
+            has_their_nonce: false,
             answered_pings: 0,
         };
         if settings.side == Side::Client {
-            end.send_nonce();
+            end.send_nonce().expect("an offer");
         }
         end
     }
@@ -72,10 +107,11 @@ impl OtherEnd {
     /// What whole packets the bytes bring, in their order. The relay must
     /// never send what the second program refuses.
     pub fn take_in(&mut self, bytes: &[u8]) -> Result<Vec<Got>, String> {
-        self.input.extend_from_slice(bytes);
+        self.wire.extend_from_slice(bytes);
         let mut got = Vec::new();
         loop {
-            let seen = self.input.len() - self.past_blocks();
+            self.open()?;
+            let seen = self.input.len() - self.not_seen();
             let received = self.link.receive(&self.input[..seen], clock());
             match received.map_err(|refusal| format!("received what is {refusal:?}"))? {
                 Received::Wait(_) => return Ok(got),
@@ -93,9 +129,39 @@ impl OtherEnd {
         }
     }
 
+    /// Moves what came to the input, clear.
+    fn open(&mut self) -> Result<(), String> {
+        let Some(tunnel) = &mut self.tunnel else {
+            self.input.append(&mut self.wire);
+            return Ok(());
+        };
+        if self.has_their_nonce {
+            tunnel.open(&mut self.wire, &mut self.input);
+            return Ok(());
+        }
+        let length = self.wire.first_chunk();
+        let length = length.map(|length| u32::from_le_bytes(*length) as usize);
+        if length.is_some_and(|length| length <= self.wire.len()) {
+            let mut nonce: Vec<u8> = self.wire.drain(..length.unwrap_or(0)).collect();
+            tunnel.take_nonce(&mut nonce)?;
+            if tunnel.is_ciphered() {
+                self.padded = true;
+                self.link = self.if_ciphered.take().expect("the first Nonce");
+            }
+            self.has_their_nonce = true;
+            self.input.extend(nonce);
+        }
+        Ok(())
+    }
+
     /// How many bytes of the relay came behind the last whole block; its blocks
     /// begin with its Handshake.
     pub fn past_blocks(&self) -> usize {
+        self.not_seen() + self.wire.len()
+    }
+
+    /// How many of the clear ones.
+    fn not_seen(&self) -> usize {
         match self.taken {
             Some(taken) if self.padded => (taken + self.input.len()) % BLOCK,
             _ => 0,
@@ -104,7 +170,7 @@ impl OtherEnd {
 
     fn packet(&mut self, packet_type: u32, body: &[u8]) -> Result<Option<Got>, String> {
         match (packet_type, self.side) {
-            (NONCE, Side::Server) => self.send_nonce(),
+            (NONCE, Side::Server) => self.send_nonce()?,
             (NONCE, Side::Client) => self.send(HANDSHAKE_OUT),
             (HANDSHAKE, side) => {
                 self.open = true;
@@ -130,15 +196,24 @@ impl OtherEnd {
 
     /// The second program writes its own version: for another, that byte is
     /// changed and the checksum made right again.
-    fn send_nonce(&mut self) {
-        let mut packet = self.made(Outgoing::Nonce(clock(), [7; 16]));
+    fn send_nonce(&mut self) -> Result<(), String> {
+        let outgoing = Outgoing::Nonce(clock(), random(), [0; 32]);
+        let mut packet = self.made(outgoing);
+        if let Some(link) = &mut self.if_ciphered {
+            let _ = link.send(&outgoing, &mut [0; 128]);
+        }
         if let Some(version) = self.version {
             packet[NONCE_VERSION] = version;
             let end = packet.len() - 4;
             let (summed, sum) = packet.split_at_mut(end);
             sum.copy_from_slice(&crc32(summed).to_le_bytes());
         }
+        if let Some(tunnel) = &mut self.tunnel {
+            tunnel.send_nonce(&mut packet)?;
+        }
+        self.nonce = packet.len();
         self.output.extend(packet);
+        Ok(())
     }
 
     /// Adds a packet to the output; only what the link allows is ever sent.
@@ -151,8 +226,35 @@ impl OtherEnd {
         self.send(Outgoing::Message(message));
     }
 
-    /// Adds the words that a cipher would need behind the output.
+    /// What goes over the wire: through the cipher only whole blocks do.
+    pub fn take_output(&mut self) -> Vec<u8> {
+        let nonce = std::mem::take(&mut self.nonce);
+        match &mut self.tunnel {
+            None => std::mem::take(&mut self.output),
+            Some(tunnel) => tunnel.close(&mut self.output, nonce),
+        }
+    }
+
+    /// The addresses of its connection, of which keys of version 0 are made.
+    pub fn set_addresses(&mut self, addresses: Addresses) {
+        if let Some(tunnel) = &mut self.tunnel {
+            tunnel.set_addresses(addresses);
+        }
+    }
+
+    /// Whether its bytes go through the cipher.
+    pub fn is_ciphered(&self) -> bool {
+        self.tunnel.as_ref().is_some_and(Tunnel::is_ciphered)
+    }
+
+    /// Adds the words that a cipher would need behind the output. Where there is
+    /// one, they are counted here, whatever the link says of raw packets.
     pub fn flush(&mut self) {
+        if self.is_ciphered() {
+            let past = (self.output.len() - self.nonce) % BLOCK;
+            let words = (BLOCK - past) % BLOCK / 4;
+            return self.output.extend([4, 0, 0, 0].repeat(words));
+        }
         let mut words = [0; BLOCK];
         let size = self.link.flush(&mut words);
         self.output.extend(&words[..size.expect("a link in order")]);
@@ -201,9 +303,4 @@ fn payload_length(message: &Message<&[u8]>) -> usize {
     let mut length = 0;
     message.hold(|payload| length = payload.len());
     length
-}
-
-pub fn clock() -> u32 {
-    let since = SystemTime::now().duration_since(UNIX_EPOCH);
-    since.map_or(0, |duration| duration.as_secs() as u32)
 }

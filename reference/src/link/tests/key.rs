@@ -13,6 +13,7 @@ fn every_setting() -> Vec<Settings> {
                         crc32c_allowed,
                         lowest_version,
                         padded,
+                        cipher: Cipher::ClearOnly,
                     });
                 }
             }
@@ -72,7 +73,7 @@ fn four_zeros_in_front_are_36() {
     }
 }
 
-/// Nothing that a link writes or reads comes from the key.
+/// Nothing that a link set to clear only writes or reads comes from the key.
 #[test]
 fn a_key_changes_no_packet() {
     let with_key = |side, key| {

@@ -14,6 +14,7 @@ pub(super) const TALKING: Link = Link {
     phase: 2,
     awaits: true,
     owes: true,
+    ciphered: false,
     keyid: 0x99aa_bbcc,
     sends: 0x1122_3344,
     gets: 0x5566_7788,

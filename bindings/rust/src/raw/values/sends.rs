@@ -29,6 +29,7 @@ const ALL: Outgoing = Outgoing {
         pid: 0x7778,
         start: 0x797a_7b7c,
     },
+    point: *b"QRSTUVWXYZ0123456789abcdefghijkl",
 };
 
 /// What is sent at a stage: the body, and the link afterwards.

@@ -20,6 +20,7 @@ fn all_settings() -> impl Iterator<Item = Settings> {
         allows: n & 2 != 0,
         padded: n & 4 != 0,
         lowest: n / 8,
+        ..settings(false, false)
     })
 }
 
@@ -35,6 +36,7 @@ fn a_fresh_link_keeps_its_settings() {
             phase: 0,
             awaits: false,
             owes: false,
+            ciphered: false,
             keyid: 0,
             sends: FIRST_PACKET,
             gets: FIRST_PACKET,

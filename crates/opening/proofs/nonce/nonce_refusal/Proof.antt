@@ -43,7 +43,7 @@ returns-4 c =
       ← c .before .before .before .before .before .near .ensures,
       c .before .before .before .before .if2 .left,
       le-ltb _ _ (c .before .before .if3 .left),
-      ← c .before .cipher-refused .ensures,
+      ← c .before .refused .ensures,
       c .if4 .taken,
     )
 
@@ -57,7 +57,7 @@ returns-5 c =
       ← c .before .before .before .before .before .before .before .near .ensures,
       c .before .before .before .before .before .before .if2 .left,
       le-ltb _ _ (c .before .before .before .before .if3 .left),
-      ← c .before .before .before .cipher-refused .ensures,
+      ← c .before .before .before .refused .ensures,
       c .before .before .if4 .left,
       ← c .before .beyond .ensures,
       c .if5 .taken,
@@ -73,7 +73,7 @@ returns-6 c =
       ← c .before .before .before .before .before .before .before .near .ensures,
       c .before .before .before .before .before .before .if2 .left,
       le-ltb _ _ (c .before .before .before .before .if3 .left),
-      ← c .before .before .before .cipher-refused .ensures,
+      ← c .before .before .before .refused .ensures,
       c .before .before .if4 .left,
       ← c .before .beyond .ensures,
       c .if5 .left,

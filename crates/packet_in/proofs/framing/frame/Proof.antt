@@ -1,7 +1,7 @@
 -- `packet_in::framing::frame` meets its contract. Assumes nothing.
 use native.Mathlib.Omega.{arith}
 use Rattle.wire.proofs.StoreLaws.{lent}
-use Rattle.packet_in.proofs.WordLaws.{words-bound}
+use Rattle.packet_head.proofs.WordLaws.{words-bound}
 use Rattle.packet_in.specs.Frame.{frameOf}
 use borrow.Author.Tests.{eq-eqb, ne-eqb}
 use borrow.Author.Needs.{needs}

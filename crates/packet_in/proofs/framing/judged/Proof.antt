@@ -1,6 +1,6 @@
 -- `packet_in::framing::judged` meets its contract. Assumes nothing.
 use native.Mathlib.Omega.{arith}
-use Rattle.packet_in.proofs.WordLaws.{zeros-read}
+use Rattle.packet_head.proofs.WordLaws.{zeros-read}
 use borrow.Author.Tests.{eq-eqb, ne-eqb}
 use borrow.Author.Needs.{needs}
 use Rattle.packet_in.proofs.framing.judged.Statement.{statement}

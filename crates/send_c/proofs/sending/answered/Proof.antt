@@ -8,12 +8,12 @@ returns c =
     let before-step = c .before .before .before .before .before .before in
     let said = c .before .before .before .before .send-step .ensures in (
       simp (
-        ← before-step .before .to-send .ensures,
+        ← before-step .before .before .to-send .ensures,
         ← said .0,
         c .sent-fields .ensures,
       ),
       simp (
-        ← before-step .before .to-send .ensures,
+        ← before-step .before .before .to-send .ensures,
         said .1,
       ),
     )

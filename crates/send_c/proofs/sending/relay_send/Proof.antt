@@ -44,7 +44,7 @@ use denote.Triple.Walked.{says, Stays, stay-ref, stay-none, stay-none-slice, gav
 use denote.Exit.{yes}
 use denote.Signature.{plain}
 use Rattle.send.specs.Send.{sendOf, sendBuffer}
-use Rattle.send_c.specs.ToSend.{toSendOf}
+use Rattle.send_c.specs.ToSend.{toSendOf, drawnOf}
 use Rattle.send_c.specs.SentFields.{answeredOf}
 use Rattle.link_state.specs.declared.Link.{Link}
 use Rattle.link_state.specs.declared.Moment.{Moment}
@@ -133,7 +133,7 @@ module _ {M : Type 1} (𝓤 : URA M) (H : Heap 𝓤) (A : Atoms 𝓤) (W : Given
 
   -- what the step ensures of its result and of the buffer's last list
   abbrev Said : Answered → List ℕ → Type 0
-  Said r zs = (r ≡ answeredOf (sendOf h (toSendOf m) (s .now) (m .random) n (length ys))) × (zs ≡ sendBuffer h (toSendOf m) (s .now) (m .random) n ys)
+  Said r zs = (r ≡ answeredOf (sendOf h (toSendOf m) (s .now) (drawnOf m) n (length ys))) × (zs ≡ sendBuffer h (toSendOf m) (s .now) (drawnOf m) n ys)
 
   exits : (r : Answered) (zs : List ℕ) → Said r zs → length zs ≡ length ys → Is S.the-row (r .answer) (avals (r .answer))
       → ent 𝓤 (⋆ 𝓤 H A (‵ (fobs γ (T.the-row .coded .code (r .link))) ∷ ‵ (fbor κ (Body (mem T.the-row) b o γ)) ∷ ‵ (flft κ q) ∷ (‵ (flft κ₁ q₁) ⊛ ‵ (flft κ₂ q₂) ⊛ ‵ ftrue) ∷ ‵ (finally u8 γ₁ zs) ∷ ‵ Own₂ ∷ [])) (Post (LL.val S.the-type S′.the-laws (r .answer)))

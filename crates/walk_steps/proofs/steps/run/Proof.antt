@@ -4,8 +4,8 @@ use mathlib.Core.List.{List, [], _++_}
 use Prim.Native.Nat.{ℕ}
 use borrow.Author.Needs.{needs}
 use borrow.Author.Tests.{not-false}
-use Rattle.walk_steps.specs.declared.Progress.{Progress}
-use Rattle.walk_steps.specs.Step.{startOf}
+use Rattle.walk_progress.specs.declared.Progress.{Progress}
+use Rattle.walk_progress.specs.Start.{startOf}
 use Rattle.walk_steps.specs.Runs.{Run}
 use Rattle.walk_steps.proofs.Runs.{runs}
 use Rattle.walk_steps.proofs.steps.run.Statement.{statement}

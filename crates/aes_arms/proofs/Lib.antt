@@ -1,0 +1,2 @@
+-- Laws of tables that are matches.
+pub mod Arms

@@ -1,0 +1,2 @@
+-- Definitions of crate cipher_c: answers as structs for C.
+pub mod CipherFields

@@ -1,0 +1,3 @@
+-- Laws that the proofs of crate packet_head cite.
+pub mod HeadLaws
+pub mod WordLaws

@@ -1,0 +1,2 @@
+-- Definitions of crate walk_progress: the start.
+pub mod Start
