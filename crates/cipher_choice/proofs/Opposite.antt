@@ -1,4 +1,5 @@
--- Two links meet exactly where the tables do not say 9. Assumes nothing.
+-- Links that meet get no 9, and where the tables say none, two links with lowest versions up to 2 and one profile meet.
+-- Assumes nothing.
 use native.Mathlib.Omega.{arith}
 use borrow.Author.Tests.{eqb-true, eq-eqb}
 use mathlib.Core.Path.{_≡_, refl}
