@@ -1,5 +1,9 @@
 //! Bytes and numbers that no honest peer sends: every call answers.
 
+#[path = "common/random.rs"]
+mod random;
+
+use random::Random;
 use relay::keys::NonceFields;
 use relay::{
     checksum, clock_difference, net_pids, packet_type, read_message, Arrival, FrontNumber, Invoke,
@@ -11,25 +15,7 @@ use std::collections::BTreeSet;
 const NOW: Moment = Moment { time: 0 };
 const SIDES: [Side; 2] = [Side::Client, Side::Server];
 
-/// A small generator, the same bytes on every run.
-struct Random(u64);
-
 impl Random {
-    fn next(&mut self) -> u64 {
-        self.0 ^= self.0 << 13;
-        self.0 ^= self.0 >> 7;
-        self.0 ^= self.0 << 17;
-        self.0
-    }
-
-    fn below(&mut self, n: usize) -> usize {
-        self.next() as usize % n
-    }
-
-    fn bytes(&mut self, n: usize) -> Vec<u8> {
-        (0..n).map(|_| self.next() as u8).collect()
-    }
-
     /// A link with any settings that are not refused.
     fn link(&mut self, side: Side, padded: bool) -> Link {
         let settings = Settings::new(side, self.below(2) == 0);

@@ -9,10 +9,13 @@ mod letting_go;
 mod lumps;
 mod other_keys;
 mod pair;
+#[path = "../common/random.rs"]
+mod random;
 mod settings;
 mod tables;
 mod vectors;
 
+use random::Random;
 use relay::{Cipher, Moment, Side};
 
 const SIDES: [Side; 2] = [Side::Client, Side::Server];
@@ -22,23 +25,3 @@ const NOW: Moment = Moment {
 };
 /// Its first four bytes are the KeyID.
 const KEY: [u8; 40] = *b"KeyID and as many bytes more as it takes";
-
-/// A small generator, the same numbers on every run.
-struct Random(u64);
-
-impl Random {
-    fn next(&mut self) -> u64 {
-        self.0 ^= self.0 << 13;
-        self.0 ^= self.0 >> 7;
-        self.0 ^= self.0 << 17;
-        self.0
-    }
-
-    fn below(&mut self, n: usize) -> usize {
-        self.next() as usize % n
-    }
-
-    fn bytes(&mut self, n: usize) -> Vec<u8> {
-        (0..n).map(|_| self.next() as u8).collect()
-    }
-}
