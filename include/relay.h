@@ -139,9 +139,9 @@ typedef struct relay_settings {
  *   cipher only   true    true    1                  1              0                   1
  *   either        true    false   2                  0 or 1         nothing             0 to 0, 1 to all else
  *
- * Where the cipher is chosen, a Nonce with another KeyID than our key's is refused with 9 too. The Nonces are clear: who
- * can change them under way can have two links that are set to either go clear, or speak an older version. A link that
- * must be ciphered is set to cipher only, and for forward secrecy with lowest 2. */
+ * Where the cipher is chosen, a Nonce with another KeyID than our key's is refused with 9 too. The Nonces are clear:
+ * who can change them under way can have two links that are set to either go clear, or speak an older version. A link
+ * that must be ciphered is set to cipher only, and for forward secrecy with lowest 2. */
 
 /* What the caller gives with each call. */
 typedef struct relay_moment {
@@ -270,8 +270,8 @@ typedef struct relay_sent {
     size_t size;
 } relay_sent;
 
-/* Writes a packet at the front of buf; bytes past it stay. After a refusal the link and every byte of buf are as before.
- * payload is what an invoke or result carries, or an error's text. A Nonce bears moment's time. */
+/* Writes a packet at the front of buf; bytes past it stay. After a refusal the link and every byte of buf are as
+ * before. payload is what an invoke or result carries, or an error's text. A Nonce bears moment's time. */
 relay_sent relay_send(relay_link *link, uint8_t *buf, size_t room, const uint8_t *payload, size_t n,
                       relay_outgoing outgoing, relay_moment moment);
 
@@ -299,14 +299,15 @@ relay_sent relay_flush(relay_link *link, uint8_t *buf, size_t room);
  *      each Nonce, in version 0 both addresses, in version 2 the shared bytes.
  *   5. relay_derive with from_server false, for what the client sends, and true, for what the server sends. Of our own
  *      direction relay_encipher_keys, of the other relay_decipher_keys; keep these and each direction's vector.
- *   6. relay_clear of the key, the shared bytes, both init messages and both relay_derived.
+ *   6. relay_clear of the key, the shared bytes, both init messages, both relay_derived and both relay_cipher_key.
  *   7. Out, from our Handshake on: send any number of packets one behind the other, relay_flush behind the last, then
  *      relay_encipher of all that was written since the last time (it is whole blocks), keep the vector, and write the
  *      bytes to the socket. Nothing is written that was not flushed and enciphered.
  *   8. In, from the first byte behind the other's Nonce on, even if it came in one read with it: relay_decipher of the
  *      whole blocks that are there, keep the vector, put what is deciphered behind the clear bytes that no packet has
  *      used yet, and relay_receive of these. The rest of a block waits, as it is, for the bytes behind it.
- *   9. When the link ends: relay_clear of round keys and vectors.
+ *   9. When the link ends: relay_clear of round keys and vectors, and if it ends before step 6, of the key and of what
+ *      else step 6 names that is there by then.
  *
  * With another key at the other end, or after changed bytes, what is deciphered is not what was sent. But for chance
  * relay_receive refuses it then, by length, number, type or checksum, or waits for bytes that a false length promises.
@@ -441,8 +442,8 @@ typedef struct relay_table {
     relay_publisher_number next[8];
 } relay_table;
 
-/* In the answers below, refusal is 0 where the call was not refused; the other fields are 0 where it was. A refused call
- * leaves the table, and the slice that it is lent, as they were. */
+/* In the answers below, refusal is 0 where the call was not refused; the other fields are 0 where it was. A refused
+ * call leaves the table, and the slice that it is lent, as they were. */
 
 typedef struct relay_started {
     uint8_t refusal;

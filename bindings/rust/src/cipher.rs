@@ -23,10 +23,33 @@ struct Chain {
     vector: raw::Vector,
 }
 
-impl Drop for Chain {
-    fn drop(&mut self) {
+impl Chain {
+    /// With the round keys that `expand` makes.
+    fn new(
+        derived: &Keys,
+        expand: unsafe extern "C" fn(raw::CipherKey) -> raw::RoundKeys,
+    ) -> Box<Chain> {
+        let mut chain = Box::new(Chain {
+            keys: raw::RoundKeys { bytes: [0; 240] },
+            vector: raw::Vector { bytes: [0; BLOCK] },
+        });
+        chain.vector.bytes = derived.vector;
+        let mut key = raw::CipherKey { bytes: derived.key };
+        // SAFETY: all is passed by value.
+        chain.keys = unsafe { expand(key) };
+        clear(&mut key.bytes);
+        chain
+    }
+
+    fn wipe(&mut self) {
         clear(&mut self.keys.bytes);
         clear(&mut self.vector.bytes);
+    }
+}
+
+impl Drop for Chain {
+    fn drop(&mut self) {
+        self.wipe();
     }
 }
 
@@ -41,10 +64,7 @@ pub struct Decipher(Box<Chain>);
 impl Encipher {
     /// With the keys for what we send; the caller clears them.
     pub fn new(keys: &Keys) -> Encipher {
-        let bytes = keys.key;
-        // SAFETY: all is passed by value.
-        let round_keys = unsafe { raw::relay_encipher_keys(raw::CipherKey { bytes }) };
-        Encipher(chain(round_keys, keys))
+        Encipher(Chain::new(keys, raw::relay_encipher_keys))
     }
 
     /// Enciphers the bytes where they stand. Refused with 37 if they are not
@@ -62,10 +82,7 @@ impl Encipher {
 impl Decipher {
     /// With the keys for what the other side sends; the caller clears them.
     pub fn new(keys: &Keys) -> Decipher {
-        let bytes = keys.key;
-        // SAFETY: all is passed by value.
-        let round_keys = unsafe { raw::relay_decipher_keys(raw::CipherKey { bytes }) };
-        Decipher(chain(round_keys, keys))
+        Decipher(Chain::new(keys, raw::relay_decipher_keys))
     }
 
     /// Deciphers the bytes where they stand. Refused with 37 if they are not
@@ -80,12 +97,6 @@ impl Decipher {
     }
 }
 
-fn chain(keys: raw::RoundKeys, derived: &Keys) -> Box<Chain> {
-    let bytes = derived.vector;
-    let vector = raw::Vector { bytes };
-    Box::new(Chain { keys, vector })
-}
-
 /// Without what it has.
 impl fmt::Debug for Encipher {
     fn fmt(&self, f: &mut fmt::Formatter) -> fmt::Result {
@@ -97,5 +108,27 @@ impl fmt::Debug for Encipher {
 impl fmt::Debug for Decipher {
     fn fmt(&self, f: &mut fmt::Formatter) -> fmt::Result {
         f.debug_struct("Decipher").finish_non_exhaustive()
+    }
+}
+
+#[cfg(test)]
+mod tests {
+    use super::*;
+
+    #[test]
+    fn nothing_of_a_chain_is_left() {
+        let keys = Keys {
+            message: &mut [],
+            key: [1; 32],
+            vector: [2; BLOCK],
+        };
+        for expand in [raw::relay_encipher_keys, raw::relay_decipher_keys] {
+            let mut chain = Chain::new(&keys, expand);
+            assert_ne!(chain.keys.bytes, [0; 240]);
+            assert_eq!(chain.vector.bytes, [2; BLOCK]);
+            chain.wipe();
+            assert_eq!(chain.keys.bytes, [0; 240]);
+            assert_eq!(chain.vector.bytes, [0; BLOCK]);
+        }
     }
 }

@@ -1,12 +1,8 @@
 //! The keys of a link: what AES-256 in CBC mode needs for each direction, from
 //! both Nonces and the link's key. The Diffie-Hellman exchange is the caller's,
 //! and the cipher is in [`cipher`](crate::cipher). A [`Session`](crate::Session)
-//! does all of this in its order; the parts are here for other drivers.
-//!
-//! Both ends do alike when both Nonces went over and chose the cipher:
-//! [read](NonceFields::read) the one that they received and their own (what `send`
-//! wrote, but for the first 12 bytes and the last 4), fill a [`Derivation`],
-//! [`derive()`] once for each sender, make the round keys, and clear.
+//! does all of this in its order; the parts are here for other drivers, whose
+//! order of calls is in include/relay.h.
 //!
 //! No call keeps anything, and but for a [`Key`] nothing here is cleared when it is
 //! dropped. The caller clears, when it is done with them, [the keys](Keys::clear),
@@ -49,11 +45,15 @@ impl Key {
     pub fn bytes(&self) -> &[u8] {
         &self.0
     }
+
+    fn wipe(&mut self) {
+        clear(&mut self.0);
+    }
 }
 
 impl Drop for Key {
     fn drop(&mut self) {
-        clear(&mut self.0);
+        self.wipe();
     }
 }
 
@@ -191,11 +191,27 @@ pub fn derive<'b>(buf: &'b mut [u8], what: &Derivation, key: &[u8]) -> Result<Ke
     let (start, room) = (buf.as_mut_ptr(), buf.len());
     // SAFETY: each pointer and length are a slice's; what is borrowed to be
     // written overlaps nothing.
-    let derived = unsafe { raw::relay_derive(start, room, what.raw(), key.as_ptr(), key.len()) };
+    let mut derived =
+        unsafe { raw::relay_derive(start, room, what.raw(), key.as_ptr(), key.len()) };
     let keys = Keys {
         message: &mut buf[..derived.size],
         key: derived.key,
         vector: derived.vector,
     };
+    clear(&mut derived.key);
+    clear(&mut derived.vector);
     Refusal::unless(derived.refusal, keys)
+}
+
+#[cfg(test)]
+mod tests {
+    use super::*;
+
+    #[test]
+    fn nothing_of_a_key_is_left() {
+        let mut key = Key::new(&[1; 40]);
+        assert_eq!(key.bytes(), [1; 40]);
+        key.wipe();
+        assert_eq!(key.bytes(), [0; 40]);
+    }
 }

@@ -5,10 +5,10 @@
 //! proved to meet its contract for every input. This crate declares its C
 //! interface and wraps it, so that the compiler keeps what a C caller must keep:
 //! slices that fit, a front number never taken for a publisher's, a link and a
-//! table that only their own calls change. It decides nothing itself and copies
-//! no payload. The types that matter are [`Link`], [`Message`] and [`Table`].
-//! [`keys`] and [`cipher`] have the parts of a ciphered link, and a [`Session`] is
-//! a link, clear or ciphered, with its bytes: it does all of them in their order.
+//! table that only their own calls change. The types that matter are [`Link`],
+//! [`Message`] and [`Table`], which decide nothing themselves and copy no payload.
+//! [`keys`] and [`cipher`] have the parts of a ciphered link. A [`Session`] is a
+//! link, clear or ciphered, that keeps its bytes and makes all calls in their order.
 //!
 //! ```
 //! use relay::{Arrival, Link, Moment, Settings, Side, ToSend};

@@ -29,8 +29,9 @@ pub use agreement::{Address, Addresses, Card};
 /// second Nonce, so that nothing goes on without them; each direction has its own,
 /// and no caller holds them. What comes behind the other side's Nonce reaches the
 /// link deciphered only, and what goes behind ours leaves flushed and enciphered
-/// only. Keys, shared bytes and the link's key are cleared as soon as they are not
-/// needed, and with the session at the latest. What the compiler leaves on the
+/// only. The link's key and the shared bytes are cleared as soon as the keys are
+/// derived or never will be, the keys for what comes as soon as nothing more can
+/// come, and those for what goes with the session. What the compiler leaves on the
 /// stack is not cleared.
 ///
 /// ```
@@ -50,7 +51,7 @@ pub struct Session {
     link: Link,
     /// What the keys are derived from; none once they are or will never be.
     agreement: Option<Agreement>,
-    /// The card has refused the other side's point: nothing goes on.
+    /// The card gave no shared bytes: nothing goes on.
     is_broken: bool,
     input: Input,
     output: Output,
@@ -121,7 +122,15 @@ impl Session {
         let (arrival, body) = self.link.receive_at(self.input.clear(), moment);
         let (kind, consumed) = match arrival {
             Arrival::Packet { kind, consumed, .. } => (kind, consumed),
-            Arrival::Refused(refusal) => return Err(refusal.into()),
+            Arrival::Refused(refusal) => {
+                if self.link.is_closed() {
+                    // Nothing more comes. The output stays: its cipher decides
+                    // what of it is dropped.
+                    self.agreement = None;
+                    self.input = Input::default();
+                }
+                return Err(refusal.into());
+            }
             Arrival::Incomplete(_) => {
                 self.input.let_go();
                 return Ok(None);
@@ -212,11 +221,13 @@ impl Session {
             return Ok(());
         }
         self.input.seal();
-        let Some((encipher, decipher)) = agreement.derive() else {
-            self.is_broken = true;
-            self.output = Output::default();
-            return Err(Fault::Card);
-        };
+        // The card is the caller's code. If it panics and the caller goes on, there
+        // are no keys, and nothing may leave.
+        self.is_broken = true;
+        let output = std::mem::take(&mut self.output);
+        let (encipher, decipher) = agreement.derive().ok_or(Fault::Card)?;
+        self.is_broken = false;
+        self.output = output;
         self.input.unseal(decipher);
         self.output.encipher(encipher);
         Ok(())

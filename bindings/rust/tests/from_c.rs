@@ -3,10 +3,11 @@
 use std::path::Path;
 use std::process::Command;
 
-/// What bindings/c/NAME.c prints.
-fn printed(name: &str) -> String {
+/// What bindings/c/NAME.c prints, given these words.
+fn printed(name: &str, words: &[&str]) -> String {
     let bindings = Path::new(env!("CARGO_MANIFEST_DIR")).join("..");
-    let program = Path::new(env!("CARGO_TARGET_TMPDIR")).join(name);
+    // Each test has a program of its own, as they run at the same time.
+    let program = Path::new(env!("CARGO_TARGET_TMPDIR")).join(name.to_owned() + &words.concat());
     let compiled = Command::new("cc")
         .args([
             "-std=c99",
@@ -25,7 +26,8 @@ fn printed(name: &str) -> String {
         .status()
         .expect("cc");
     assert!(compiled.success());
-    let run = Command::new(&program).output().expect("the example");
+    let run = Command::new(&program).args(words).output();
+    let run = run.expect("the example");
     assert!(run.status.success());
     String::from_utf8(run.stdout).expect("text")
 }
@@ -39,7 +41,7 @@ replied: to link 3, number 77
 cancelled too late: 34
 lost: 1, link 4, number 77
 ";
-    assert_eq!(printed("example"), expected);
+    assert_eq!(printed("example", &[]), expected);
 }
 
 #[test]
@@ -56,7 +58,25 @@ asked: page 1, please
 server writes 48 bytes
 answered: the first page
 ";
-    assert_eq!(printed("cipher"), expected);
+    assert_eq!(printed("cipher", &[]), expected);
+}
+
+/// Set to either, against a server that is clear only.
+#[test]
+fn a_clear_link_in_c() {
+    let expected = "\
+client writes 76 bytes
+server writes 76 bytes
+client: version 2, clear
+server: version 2, clear
+client writes 44 bytes
+server writes 44 bytes
+client writes 38 bytes
+asked: page 1, please
+server writes 38 bytes
+answered: the first page
+";
+    assert_eq!(printed("cipher", &["clear"]), expected);
 }
 
 /// The last six lines are the protocol document's.
@@ -77,5 +97,5 @@ message 4142434445464748494a4b4c4d4e4f506162636465666768696a6b6c6d6e6f70\
 key e3cf8557ea4ad963c3b637d466388403841d2e989a1fc684ac691c44b05ac9bb
 vector 1efd4c8aa43a87d1ea5488a1bc669269
 ";
-    assert_eq!(printed("keys"), expected);
+    assert_eq!(printed("keys", &[]), expected);
 }

@@ -1,4 +1,5 @@
-// The C interface of a link, but for receiving and sending: each exported function wraps one call of the library and has its contract.
+// The C interface of a link, but for receiving and sending: each exported function wraps one call of the library and
+// has its contract.
 //
 // An enum passes as a struct of numbers and flags, a part of the caller's bytes as a place and a length. Nothing here
 // decides anything: what a call answers is said by the crate that it wraps. The types that matter are `RelaySetUp` and

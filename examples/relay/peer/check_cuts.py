@@ -2,12 +2,11 @@
 
 import functools
 
-from .ground import FRONT_KEY, KEY, VERSIONS
-from .link import Settings
+from .ground import FRONT_KEY, KEY
+from .link import VERSIONS, Settings
 from .publisher import Script
-from .relay import key_path
 from .report import Check
-from .stage import options, spread
+from .stage import spread
 from .wire import Bytewise, CutAt
 
 # Answers and requests whose packets end in padding zeros and words of 4.
@@ -20,15 +19,14 @@ async def cuts(ground):
     back = Check("front's ciphered bytes cut at every place")
     bytewise = Check("byte by byte, both sides, every version")
     reading = Check("read in pieces of 1 to 33 bytes")
-    path = key_path(ground.folder, KEY)
-    rows = [(options("only", path), Settings("only", KEY))] * 8
-    async with ground.stage(rows, fronts=Settings("only", FRONT_KEY)) as stage:
+    async with ground.stage([ground.row("only")] * 8, fronts=Settings("only", FRONT_KEY)) as stage:
         front = await stage.open_front()
         await stage.all_open()
         await _publishers(stage, front, there)
         await _fronts(stage, back)
         await _bytewise(stage, front, bytewise)
         await _reading(stage, front, reading)
+        await stage.settle(reading)
     return there, back, bytewise, reading
 
 

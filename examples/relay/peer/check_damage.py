@@ -1,15 +1,17 @@
 """Packets damaged on their way, after a good opening."""
 
 import functools
+import itertools
 import random
 
 from . import messages
 from .book import noise
+from .check_padding import spoilt_answer, spoilt_request
 from .check_wrong import DAMAGED
 from .cipher import BLOCK
 from .damage import Once, again, flip, lose, swap, twice
-from .ground import FRONT_KEY, KEY, VERSIONS
-from .link import Settings
+from .ground import FRONT_KEY, KEY
+from .link import VERSIONS, Settings
 from .publisher import Script
 from .report import Check
 from .stage import spread
@@ -47,27 +49,28 @@ async def _damaged_answer(stage, front, check, change, size, text, lawful, index
     opened = await stage.play(index, script)
     wrong = len(stage.book.wrong)
     right = await stage.ask_until_hit(front, index, script, 40, size)
-    ended = await stage.ended(script)
-    good = opened and damage.did and ended and (lawful or right is False)
+    refused = await stage.refused(script)
+    good = opened and damage.did and refused and (lawful or right is False)
     check.that(good and len(stage.book.wrong) == wrong,
-               f"{text}: opened {opened}, ended {ended}, delivered {right}")
+               f"{text}: opened {opened}, refused {refused}, delivered {right}")
     stage.drop(script)
 
 
-def _packet_size(page_size):
+def packet_size(page_size):
     """An answer's bytes on a ciphered link, when it begins a block."""
     return (8 + page_size + 16 + 15) // 16 * 16
 
 
 async def flipped_answers(stage, front):
     check = Check("a bit flipped at every byte of an answer, and sampled in long ones")
-    cases = [(77, byte) for byte in range(_packet_size(77))]
-    cases += [(4, byte) for byte in range(_packet_size(4))]
+    cases = [(77, byte) for byte in range(packet_size(77))]
+    cases += [(4, byte) for byte in range(packet_size(4))]
     for size in (1000, 20000):
-        cases += [(size, byte) for byte in random.sample(range(_packet_size(size)), 30)]
+        cases += [(size, byte) for byte in random.sample(range(packet_size(size)), 30)]
     jobs = [functools.partial(_damaged_answer, stage, front, check, flip(byte, random.randrange(8)),
                               size, f"{size} bytes, byte {byte}", False) for size, byte in cases]
     await spread(jobs, DAMAGED, check)
+    await stage.settle(check)
     return (check,)
 
 
@@ -85,25 +88,26 @@ async def _damaged_request(stage, check, change, size, text, lawful, index):
         body = messages.invoke(front.next_number + turn, stage.actor(index, 0), data)
         front.link.send(messages.INVOKE, body, name)
     front.wire.wake()
-    ended = await front.ended()
-    good = opened and damage.did and ended and front.wire.ended_by_other
+    refused = await stage.refused_front(front)
+    good = opened and damage.did and refused
     if lawful:
         front.strays = [stray for stray in front.strays if stray[1] != stage.book.answers[payload]]
     good = good and not [page for _, page in front.strays if page is not None]
     check.that(good and len(stage.book.unknown) == unknown and len(stage.book.wrong) == wrong,
-               f"{text}: opened {opened}, ended {ended}, strays {front.strays}")
+               f"{text}: opened {opened}, refused {refused}, strays {front.strays}")
     front.strays = []
     await stage.leave(front)
 
 
 async def flipped_requests(stage, _):
     check = Check("a bit flipped at every byte of a request, and sampled in long ones")
-    cases = [(65, byte) for byte in range(_packet_size(65 + 12))]
+    cases = [(65, byte) for byte in range(packet_size(65 + 12))]
     for size in (1000, 20000):
-        cases += [(size, byte) for byte in random.sample(range(_packet_size(size + 12)), 30)]
+        cases += [(size, byte) for byte in random.sample(range(packet_size(size + 12)), 30)]
     jobs = [functools.partial(_damaged_request, stage, check, flip(byte, random.randrange(8)),
                               size, f"{size} bytes, byte {byte}", False) for size, byte in cases]
     await spread(jobs, DAMAGED, check)
+    await stage.settle(check)
     return (check,)
 
 
@@ -112,7 +116,7 @@ async def flipped_requests(stage, _):
 
 async def blocks(stage, front):
     check = Check("blocks of a packet lost, sent twice, exchanged; whole packets twice")
-    count = _packet_size(77) // BLOCK
+    count = packet_size(77) // BLOCK
     jobs = []
     for name, change, blocks in (("lost", lose, count), ("twice", twice, count),
                                  ("exchanged", swap, count - 1)):
@@ -129,29 +133,7 @@ async def blocks(stage, front):
     jobs.append(functools.partial(_damaged_request, stage, check, again, 65,
                                   "a whole request twice", True))
     await spread(jobs, DAMAGED, check)
-    return (check,)
-
-
-async def broken_off(stage, front):
-    """A publisher that dies in the middle of its answer."""
-    check = Check("answers broken off at every block: an error or nothing, no page")
-
-    async def one(kept, index):
-        def answer(script, wire, number, payload):
-            stage.book.spoilt.add(payload)
-            page = stage.book.look_up(payload)
-            wire.link.going.packet(messages.RESULT, messages.result(number, page))
-            wire.writer.write(wire.link.going.flush()[:kept])
-            wire.writer.close()
-
-        script = Script(Settings("only", KEY), answer=answer, only_size=77)
-        opened = await stage.play(index, script)
-        right = await stage.ask_until_hit(front, index, script, 40, 77)
-        check.that(opened and right is False, f"after {kept} bytes: opened {opened}, {right}")
-
-    count = _packet_size(77)
-    places = [*range(0, count, 16), *random.sample(range(count - 16), 12)]
-    await spread([functools.partial(one, kept) for kept in places], DAMAGED, check)
+    await stage.settle(check)
     return (check,)
 
 
@@ -160,49 +142,10 @@ async def broken_off(stage, front):
 
 async def padding(stage, front):
     check = Check("padding other than zero, a fourth word of 4")
-    jobs = [functools.partial(_bad_padding, stage, front, check, size, fault)
-            for fault in ("zeros", "words") for size in (37, 38, 39, 77, 1001)]
-    jobs += [functools.partial(_bad_request_padding, stage, check, size, fault)
-             for fault in ("zeros", "words") for size in (37, 38, 39, 77, 1001)]
+    jobs = []
+    for fault, size in itertools.product(("zeros", "words"), (37, 38, 39, 77, 1001)):
+        jobs.append(functools.partial(spoilt_answer, stage, front, check, size, fault))
+        jobs.append(functools.partial(spoilt_request, stage, check, None, size, fault))
     await spread(jobs, DAMAGED, check)
+    await stage.settle(check)
     return (check,)
-
-
-def _spoil(going, fault, kind, body):
-    if fault == "words":
-        # Those of the last flush count, too.
-        going.words(4 - going.trailing)
-    going.packet(kind, body, spoil_zeros=fault == "zeros")
-
-
-async def _bad_padding(stage, front, check, size, fault, index):
-    book = stage.book
-
-    def answer(script, wire, number, payload):
-        book.spoilt.add(payload)
-        page = book.look_up(payload)
-        _spoil(wire.link.going, fault, messages.RESULT, messages.result(number, page))
-        wire.link.push("answer")
-        wire.wake()
-
-    script = Script(Settings("only", KEY), answer=answer, only_size=size)
-    opened = await stage.play(index, script)
-    right = await stage.ask_until_hit(front, index, script, 40, size)
-    ended = await stage.ended(script, 1.5)
-    check.that(opened and right is False and ended,
-               f"answer of {size} bytes, {fault}: opened {opened}, ended {ended}, delivered {right}")
-    stage.drop(script)
-
-
-async def _bad_request_padding(stage, check, size, fault, index):
-    front = await stage.front()
-    opened = await front.opened()
-    unknown = len(stage.book.unknown)
-    body = messages.invoke(5, stage.actor(index, 0), noise(size))
-    _spoil(front.link.going, fault, messages.INVOKE, body)
-    front.link.push("invoke")
-    front.wire.wake()
-    ended = await front.ended(1.5)
-    check.that(opened and ended and len(stage.book.unknown) == unknown,
-               f"request of {size} bytes, {fault}: opened {opened}, ended {ended}")
-    await stage.leave(front)

@@ -6,17 +6,16 @@ are damaged, one connection after another.
 
 import asyncio
 
-from . import check_damage, check_wrong
-from .ground import FRONT_KEY, KEY
+from . import check_broken, check_damage, check_wrong
+from .ground import FRONT_KEY
 from .link import Settings
-from .relay import key_path
 from .report import Check
-from .stage import Stage, options
-
+from .stage import Stage
 
 PARTS = (
     check_wrong.wrong_keys,
     check_wrong.key_ids,
+    check_wrong.flipped_nonces,
     check_wrong.changed_nonces,
     check_wrong.wrong_vectors,
     check_wrong.others_bytes,
@@ -26,23 +25,25 @@ PARTS = (
     check_damage.flipped_answers,
     check_damage.flipped_requests,
     check_damage.blocks,
-    check_damage.broken_off,
     check_damage.padding,
+    check_broken.answers,
+    check_broken.requests,
+    check_broken.openings,
 )
 
 
 async def faults(ground):
-    path = key_path(ground.folder, KEY)
-    rows = [(options("only", path), Settings("only", KEY))] * 8
     served = Check("the other publishers are served all the while")
     checks = []
-    async with ground.stage(rows, fronts=Settings("only", FRONT_KEY),
-                            ping=600, opening=1200) as stage:
+    # Pings so rare that they end no link before its fault is found.
+    async with ground.stage([ground.row("only")] * 8, fronts=Settings("only", FRONT_KEY),
+                            ping=5000, opening=1200) as stage:
         front = await stage.open_front()
         await stage.all_open()
         steady = asyncio.ensure_future(_steady(stage, served))
         for part in PARTS:
             checks += await part(stage, front)
+        served.that(not steady.done(), f"the asking broke off: {steady}")
         steady.cancel()
         served.that(stage.relay.is_running(), "the relay has ended")
     return (*checks, served)

@@ -4,12 +4,11 @@ import functools
 import os
 
 from .check_self import expected
-from .ground import FRONT_KEY, KEY, MODES, OFFERS, VERSIONS
-from .link import Settings, Twist, client_takes
+from .ground import FRONT_KEY, KEY
+from .link import MODES, OFFERS, VERSIONS, Settings, Twist, client_takes
 from .publisher import Script
-from .relay import key_path
 from .report import Check
-from .stage import options, spread
+from .stage import spread
 
 BYTES = (0, 1, 2, 3, 255)
 
@@ -26,9 +25,7 @@ async def settings_by_versions(ground):
     ids = Check("a strange KeyID: ignored where clear is chosen, else refused")
     nonces = Check("the relay's Nonces hold what the settings say")
     for mode in MODES:
-        publishers = [(options(mode, key_path(ground.folder, KEY)), Settings(mode, KEY))] * 8
-        fronts_settings = Settings(mode, FRONT_KEY)
-        async with ground.stage(publishers, fronts=fronts_settings) as stage:
+        async with ground.stage([ground.row(mode)] * 8, fronts=Settings(mode, FRONT_KEY)) as stage:
             front = await stage.open_front()
             await stage.all_open()
             if stage.routes is None:
@@ -45,9 +42,11 @@ async def _publisher_cases(stage, front, mode, honest, answers, ids, nonces):
     jobs = [functools.partial(_answered_byte, stage, front, answers, mode, byte, version)
             for byte in BYTES for version in VERSIONS]
     await spread(jobs, range(8), answers)
+    await stage.settle(answers)
     jobs = [functools.partial(_strange_id, stage, front, ids, mode, byte, version)
             for byte in (0, 1) for version in VERSIONS]
     await spread(jobs, range(8), ids)
+    await stage.settle(ids)
 
 
 async def _honest_publisher(stage, front, check, nonces, mode, my_mode, version, index):
@@ -96,7 +95,7 @@ async def _answered_byte(stage, front, check, mode, byte, version, index):
     if client_takes(OFFERS[mode], byte):
         good = opened and await _talks(stage, front, index, script)
     else:
-        good = await stage.ended(script) and not opened
+        good = await stage.refused(script, 9) and not opened
     check.that(good, f"{text}: opened {opened}")
     stage.drop(script)
 
@@ -109,7 +108,7 @@ async def _strange_id(stage, front, check, mode, byte, version, index):
     if byte == 0 and client_takes(OFFERS[mode], 0):
         good = opened and await _talks(stage, front, index, script)
     else:
-        good = await stage.ended(script) and not opened
+        good = await stage.refused(script, 9) and not opened
     check.that(good, f"relay {mode}, answered {byte}, version {version}: opened {opened}")
     stage.drop(script)
 
@@ -129,6 +128,7 @@ async def _front_cases(stage, mode, fronts, asked, ids, nonces):
         twist = Twist(encryption=byte, key_id=os.urandom(4))
         await _one_front(stage, ids, nonces, mode, Settings("either", FRONT_KEY), twist,
                          "clear" if want == "clear" else None, 2)
+    await stage.settle(asked)
 
 
 def _nonce_sizes(version):
@@ -151,7 +151,7 @@ async def _one_front(stage, check, nonces, mode, settings, twist, want, version)
     opened = await front.opened()
     text = f"relay {mode}, {settings.mode} {settings.version} {twist}"
     if want is None:
-        good = not opened and await front.ended() and front.wire.ended_by_other
+        good = not opened and await stage.refused_front(front, 9)
         check.that(good, f"{text}: opened {opened}")
     else:
         link = front.link
@@ -166,83 +166,101 @@ async def _one_front(stage, check, nonces, mode, settings, twist, want, version)
 
 async def lowest_versions(ground):
     check = Check("relay to publishers: the lowest version")
-    path = key_path(ground.folder, KEY)
-    rows = [(options("only" if index < 3 else "clear", path, lowest=index % 3),
-             Settings("only" if index < 3 else "clear", KEY)) for index in range(6)]
-    rows += [(options("either", path, lowest=2), Settings("either", KEY))] * 2
+    rows = [ground.row("only" if index < 3 else "clear", lowest=index % 3) for index in range(6)]
+    rows += [ground.row("either", lowest=2)] * 2
     async with ground.stage(rows) as stage:
         front = await stage.open_front()
         await stage.all_open()
-        for index in range(8):
-            lowest = index % 3 if index < 6 else 2
+        for index, row in enumerate(rows):
             for version in VERSIONS:
-                script = Script(Settings(rows[index][1].mode, KEY, version))
+                script = Script(Settings(row.relay.mode, KEY, version))
                 opened = await stage.play(index, script)
-                if version >= lowest:
+                if version >= row.relay.lowest:
                     good = opened and await _talks(stage, front, index, script)
                 else:
-                    good = not opened and await stage.ended(script)
-                check.that(good, f"lowest {lowest}, version {version}: opened {opened}")
+                    good = not opened and await stage.refused(script, 24)
+                check.that(good, f"lowest {row.relay.lowest}, version {version}: opened {opened}")
                 stage.drop(script)
+        await _order(stage, check)
+        await stage.settle(check)
     return (check,)
+
+
+async def _order(stage, check):
+    """Of several faults of one Nonce the first in the rules' order counts.
+
+    At publisher 2 the relay wants the cipher and version 2.
+    """
+    strange = dict(key_id=b"\xff" * 4, encryption=0, version=1)
+    for number, twist in ((7, Twist(nonce_size=27, time_shift=100, **strange)),
+                          (8, Twist(time_shift=100, **strange)),
+                          (24, Twist(**strange)),
+                          (9, Twist(encryption=0, version=3)),
+                          (9, Twist(key_id=b"\xff" * 4, version=3))):
+        script = Script(Settings("only", KEY), twist)
+        opened = await stage.play(2, script)
+        check.that(not opened and await stage.refused(script, number), f"{number} comes first: {twist}")
+        stage.drop(script)
 
 
 async def sizes_and_clocks(ground):
     """Bodies of Nonce and Handshake on either side of a line."""
     check = Check("openings on either side of a line: sizes, versions, clocks, flags")
-    path = key_path(ground.folder, KEY)
-    rows = [(options("only", path), Settings("only", KEY))] * 8
-    async with ground.stage(rows, fronts=Settings("only", FRONT_KEY)) as stage:
+    fronts = Settings("only", FRONT_KEY)
+    async with ground.stage([ground.row("only")] * 8, fronts=fronts) as stage:
         front = await stage.open_front()
         await stage.all_open()
         jobs = [functools.partial(_line_publisher, stage, front, check, *case)
                 for case in _lines(answered=True)]
         await spread(jobs, range(8), check)
-        for opens, version, twist in _lines(answered=False):
-            await _line_front(stage, check, opens, version, twist)
+        await stage.settle(check)
+        for number, version, twist in _lines(answered=False):
+            await _line_front(stage, check, number, version, twist)
+        await stage.settle(check)
     return (check,)
 
 
 def _lines(answered):
-    """Whether it opens, our version, what we write."""
-    cases = [(True, 0, Twist(nonce_size=28)), (True, 1, Twist(nonce_size=28)),
-             (False, 0, Twist(nonce_size=27)), (False, 1, Twist(nonce_size=27)),
-             (False, 2, Twist(nonce_size=28)), (False, 2, Twist(nonce_size=59)),
-             (True, 2, Twist(nonce_size=60)), (True, 2, Twist(nonce_size=61)),
-             (True, 2, Twist(nonce_size=1007)), (False, 2, Twist(nonce_size=1008)),
-             (False, 2, Twist(nonce_size=0)),
+    """The number that refuses it, None if it opens; our version; what we write."""
+    cases = [(None, 0, Twist(nonce_size=28)), (None, 1, Twist(nonce_size=28)),
+             (7, 0, Twist(nonce_size=27)), (7, 1, Twist(nonce_size=27)),
+             (7, 2, Twist(nonce_size=28)), (7, 2, Twist(nonce_size=59)),
+             (None, 2, Twist(nonce_size=60)), (None, 2, Twist(nonce_size=61)),
+             (None, 2, Twist(nonce_size=1007)), (3, 2, Twist(nonce_size=1008)),
+             (7, 2, Twist(nonce_size=0)),
              # A second may pass between our clock and the relay's look at it.
-             (True, 2, Twist(time_shift=28)), (True, 2, Twist(time_shift=-28)),
-             (False, 2, Twist(time_shift=33)), (False, 2, Twist(time_shift=-33)),
-             (False, 2, Twist(time_shift=-1000000)), (False, 2, Twist(time_shift=1000000))]
-    cases += [(True, version, Twist(handshake_size=size))
+             (None, 2, Twist(time_shift=28)), (None, 2, Twist(time_shift=-28)),
+             (8, 2, Twist(time_shift=33)), (8, 2, Twist(time_shift=-33)),
+             (8, 2, Twist(time_shift=-1000000)), (8, 2, Twist(time_shift=1000000))]
+    cases += [(None, version, Twist(handshake_size=size))
               for version in VERSIONS for size in (*range(28, 48), 1006, 1007)]
-    cases += [(False, 2, Twist(handshake_size=size)) for size in (0, 4, 27, 1008, 1100)]
+    cases += [(7, 2, Twist(handshake_size=size)) for size in (0, 4, 27)]
+    cases += [(3, 2, Twist(handshake_size=size)) for size in (1008, 1100)]
     # All bits of the flags but that of CRC-32C mean nothing.
-    cases += [(True, version, Twist(flags=0xFFFFF7FF)) for version in VERSIONS]
+    cases += [(None, version, Twist(flags=0xFFFFF7FF)) for version in VERSIONS]
     # A client may say any version and is answered ours; a server may not go beyond.
-    cases += [(not answered, 2, Twist(version=version)) for version in (3, 4, 255)]
+    cases += [(10 if answered else None, 2, Twist(version=version)) for version in (3, 4, 255)]
     return cases
 
 
-async def _line_publisher(stage, front, check, opens, version, twist, index):
+async def _line_publisher(stage, front, check, number, version, twist, index):
     script = Script(Settings("only", KEY, version), twist)
     opened = await stage.play(index, script)
-    if opens:
+    if number is None:
         good = opened and await stage.ask_until_hit(front, index, script)
     else:
-        good = await stage.ended(script)
-    check.that(good, f"publisher, version {version}, {twist}: opened {opened}")
+        good = await stage.refused(script, number)
+    check.that(good, f"publisher, version {version}, {twist}: opened {opened}, not {number}")
     stage.drop(script)
 
 
-async def _line_front(stage, check, opens, version, twist):
+async def _line_front(stage, check, number, version, twist):
     if check.hopeless:
         return
     front = await stage.front(Settings("only", FRONT_KEY, version), twist=twist)
-    if opens:
+    if number is None:
         good = await front.opened() and await stage.ask(front)
     else:
-        good = await front.ended() and front.wire.ended_by_other and not front.wire.opened.is_set()
-    check.that(good, f"front, version {version}, {twist}: {front.wire.fault}")
+        good = await stage.refused_front(front, number) and not front.wire.opened.is_set()
+    check.that(good, f"front, version {version}, {twist}: {front.wire.fault}, not {number}")
     await stage.leave(front)

@@ -5,8 +5,8 @@ import random
 import struct
 
 from .check_talk import fronts_of_all_kinds, mixed, open_links
-from .ground import FRONT_KEY, KEY, VERSIONS
-from .link import PING, PONG, Settings, Twist
+from .ground import FRONT_KEY, KEY
+from .link import PING, PONG, VERSIONS, Settings, Twist
 from .publisher import Script
 from .report import Check
 from .stage import PATIENCE
@@ -16,8 +16,8 @@ async def pings(ground):
     ours = Check("the relay answers Pings, also one straight behind a Handshake")
     theirs = Check("the relay's Pings, answered, keep links open")
     mute = Check("the relay ends links whose Pings are not answered")
-    strange = Check("Pongs not awaited and Pings of a wrong size end the link")
-    async with ground.stage(mixed(ground), fronts=Settings("either", FRONT_KEY), ping=200) as stage:
+    strange = Check("Pongs not awaited and Pings of a wrong size are refused")
+    async with ground.stage(mixed(ground), fronts=Settings("either", FRONT_KEY), ping=300) as stage:
         await stage.all_open()
         fronts = [await stage.front(settings) for settings in fronts_of_all_kinds()]
         for front in fronts:
@@ -25,22 +25,24 @@ async def pings(ground):
         await _relay_pings(stage, fronts, theirs)
         await _our_pings(stage, fronts, ours)
         await _mute(stage, mute)
+        await stage.settle(mute)
         await _strange(stage, strange)
+        await stage.settle(strange)
     return ours, theirs, mute, strange
 
 
 async def _relay_pings(stage, fronts, check):
     links = open_links(stage, fronts)
-    before = [link.pings for link in links]
+    before = [len(link.pinged) for link in links]
     await asyncio.sleep(1.6)
     for link, old in zip(links, before):
-        side = "front" if link.is_client else "publisher"
-        check.that(link.pings >= old + 3, f"{side} {link.settings.mode}: {link.pings - old} Pings in 1.6 s")
+        side, count = "front" if link.is_client else "publisher", len(link.pinged) - old
+        check.that(count >= 3, f"{side} {link.settings.mode}: {count} Pings in 1.6 s")
     still = [wire for publisher in stage.publishers for wire in publisher.wires]
     check.that(len(still) == 8, f"{len(still)} of 8 publishers' links left")
     for index in range(8):
         check.that(await stage.ask(fronts[index % len(fronts)], index), f"publisher {index} after Pings")
-    check.note = f"{sum(link.pings for link in links)} Pings"
+    check.note = f"{sum(len(link.pinged) for link in links)} Pings"
 
 
 async def _our_pings(stage, fronts, check):
@@ -85,20 +87,22 @@ async def _mute(stage, check):
 
 async def _strange(stage, check):
     eight = struct.pack("<Q", 0x123456789)
-    for kind, body, text in ((PONG, eight, "Pong not awaited"), (PING, eight[:7], "Ping of 7 bytes"),
-                             (PING, eight + b"\0", "Ping of 9 bytes"), (PING, b"", "empty Ping")):
-        async def one(index, kind=kind, body=body, text=text):
+    for kind, body, number in ((PONG, eight, 21), (PONG, eight[:7], 17), (PING, eight[:7], 17),
+                               (PING, eight + b"\0", 17), (PING, b"", 17)):
+        text = f"type {kind:#x} of {len(body)} bytes"
+
+        async def one(index):
             script = Script(stage.publishers[index].usual.settings)
             opened = await stage.play(index, script)
             if opened:
                 script.wire.link.send(kind, body)
                 script.wire.wake()
-            check.that(opened and await stage.ended(script, 1.0), f"{text}, publisher {index}")
+            check.that(opened and await stage.refused(script, number), f"{text}, publisher {index}")
 
         await asyncio.gather(*[one(index) for index in range(8)])
         for settings in fronts_of_all_kinds():
             front = await stage.open_front(settings)
             front.link.send(kind, body)
             front.wire.wake()
-            check.that(await front.ended(1.0), f"{text}, front {settings.mode}")
+            check.that(await stage.refused_front(front, number), f"{text}, front {settings.mode}")
             await stage.leave(front)

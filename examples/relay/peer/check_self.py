@@ -3,20 +3,20 @@
 import asyncio
 import itertools
 import random
+from types import SimpleNamespace
 
 from . import keys, messages, sums
 from .book import Book, noise
 from .cipher import Pair
+from .damage import Once, change_nonce, flip
 from .front import Front
-from .link import Link, Settings, server_choice
+from .ground import KEY
+from .link import MODES, OFFERS, VERSIONS, Link, Settings, Twist, server_choice
+from .mirror import UNOPENED, fault_word, foretell
 from .publisher import Publisher, Script
 from .report import Check
 from .stream import Fault
 from .wire import Bytewise, CutAt
-
-MODES = ("clear", "only", "either")
-VERSIONS = (0, 1, 2)
-KEY = bytes(range(1, 49))
 
 # Version and direction to AES key and vector, as the document prints them.
 PRINTED = {
@@ -63,7 +63,7 @@ HERE, THERE = (0x7F000001, 40000), (0x7F000002, 50000)
 
 def expected(client_mode, server_mode):
     """Clear, ciphered or None, by the tables of the rules."""
-    offer = {"clear": 0, "only": 1, "either": 2}[client_mode]
+    offer = OFFERS[client_mode]
     try:
         answer = server_choice(server_mode, offer)
     except Fault:
@@ -159,12 +159,65 @@ async def _one_over_loopback(check, book, settings, front_cuts, publisher_cuts):
     good = await front.opened()
     payload = book.request(30, 50)
     good = good and book.judge(payload, await front.ask(5, payload))
-    check.that(good, f"{settings.version} {front.wire.fault}")
     await front.close()
     await publisher.stop()
+    broken = [wire.broken for wire in [front.wire, *publisher.all_wires] if wire.broken]
+    check.that(good and not broken, f"{settings.version} {front.wire.fault} {broken}")
+
+
+def mirrors():
+    """What a mirror foretells, against what the side itself does that it stands for.
+
+    Of a changed point it cannot know the keys, so several words may be right.
+    """
+    check = Check("a mirror foretells what the peer itself refuses, a bit flipped at every byte")
+    for version, by_client in itertools.product(VERSIONS, (True, False)):
+        for name, size in (("nonce", 76), ("handshake", 48), ("packet", 64)):
+            for byte in range(size):
+                change = flip(byte, random.randrange(8))
+                _one_mirror(check, version, by_client, Once(name, change))
+        for byte in range(60):
+            change = change_nonce(byte, random.randrange(8))
+            _one_mirror(check, version, by_client, Once("nonce", change))
+    return check
+
+
+def _one_mirror(check, version, by_client, damage):
+    ours, other = Settings("only", KEY, version), Settings("only", KEY)
+    # Deaf: it is the other side that has to find out.
+    sides = {by_client: Link(by_client, ours, HERE, THERE, Twist(deaf=True)),
+             not by_client: Link(not by_client, other, THERE, HERE)}
+    mine, stranger = sides[by_client], sides[not by_client]
+    wire = SimpleNamespace(link=mine, other=other, began=mine.clock(), sent=[], left=False,
+                           opened=SimpleNamespace(is_set=lambda: False), verdict=None)
+    sides[True].begin()
+    got = _carry_damaged(mine, stranger, damage, wire.sent)
+    words = foretell(wire).words
+    check.that(damage.did and (got in words if words else got is None),
+               f"version {version}, by client {by_client}, {damage.name}: {got}, not {words}")
+
+
+def _carry_damaged(mine, stranger, damage, sent):
+    """The word for what the stranger does in the end; None if it stays linked."""
+    asked = False
+    try:
+        while mine.outbox or stranger.outbox:
+            while stranger.outbox:
+                mine.receive(stranger.outbox.popleft()[1])
+            if mine.is_open and not asked:
+                asked = True
+                mine.send(messages.RESULT, noise(45))
+                mine.send(messages.RESULT, noise(45), "extra")
+            while mine.outbox:
+                sent.append(damage(*mine.outbox.popleft()))
+                stranger.receive(sent[-1])
+    except Fault as fault:
+        return fault_word(fault.number)
+    return None if stranger.is_open else UNOPENED
 
 
 def run_self():
     yield vectors()
     yield in_memory()
+    yield mirrors()
     yield asyncio.run(over_loopback())

@@ -4,68 +4,94 @@ import asyncio
 import os
 
 from .front import first_of
-from .ground import KEY
-from .link import Settings
+from .ground import FRONT_KEY, KEY
+from .link import MODES, Settings
+from .mirror import UNOPENED
 from .publisher import Script
 from .relay import Relay, key_file, key_path
 from .report import Check
 from .stage import PUBLISHER_IP, options
 
 
+def _unfit_keys(folder):
+    """Names of files that hold no fit key: what the relay must say, and the file."""
+    return {
+        "of 31 bytes": ("(36)", key_file(folder, "short", os.urandom(31).replace(b"\0", b"k"))),
+        "of no bytes": ("(36)", key_file(folder, "empty", b"")),
+        "of 4,097 bytes": ("(36)", key_file(folder, "long", b"k" * 4097)),
+        "with four zeros in front": ("(36)", key_file(folder, "zeros", bytes(4) + b"k" * 40)),
+        "with rights for others": ("rights", key_file(folder, "others", KEY, 0o604)),
+        "with rights for the group": ("rights", key_file(folder, "group", KEY, 0o640)),
+        "that is not there": ("No such file", os.path.join(folder, "nowhere")),
+        "that is a folder": ("no regular file", folder),
+    }
+
+
 async def refused_settings(ground):
     check = Check("unfit keys and settings are refused at the start")
     good = key_path(ground.folder, KEY)
-    files = {
-        "of 31 bytes": key_file(ground.folder, "short", os.urandom(31).replace(b"\0", b"k")),
-        "of no bytes": key_file(ground.folder, "empty", b""),
-        "of 4,097 bytes": key_file(ground.folder, "long", b"k" * 4097),
-        "with four zeros in front": key_file(ground.folder, "zeros", bytes(4) + b"k" * 40),
-        "with rights for others": key_file(ground.folder, "others", KEY, 0o604),
-        "with rights for the group": key_file(ground.folder, "group", KEY, 0o640),
-        "that is not there": os.path.join(ground.folder, "nowhere"),
-        "that is a folder": ground.folder,
-    }
-    texts = {f"a publisher's key {name}": ([], options("only", path)) for name, path in files.items()}
-    texts.update({f"a front key {name}": (["--fronts-cipher", "either", "--fronts-key", path], "")
-                  for name, path in files.items()})
-    texts.update({
-        "a cipher without a key": ([], ",cipher=only"),
-        "an unknown mode": ([], f",cipher=maybe,key={good}"),
-        "a lowest version of 3": ([], ",lowest=3"),
-        "fronts with a cipher but no key": (["--fronts-cipher", "only"], ""),
-    })
-    await asyncio.gather(*[_refused(ground, check, name, *row) for name, row in texts.items()])
+    cases = []
+    for name, (words, path) in _unfit_keys(ground.folder).items():
+        fronts = ["--fronts-cipher", "either", "--fronts-key", path]
+        cases += [(f"a publisher's key {name}", words, [], options("only", path)),
+                  (f"a front key {name}", words, fronts, "")]
+    short = os.path.join(ground.folder, "short")
+    cases += [
+        ("a cipher without a key", "needs a key", [], ",cipher=only"),
+        ("fronts with a cipher but no key", "needs a key", ["--fronts-cipher", "only"], ""),
+        ("an unknown mode", "none of clear, only and either", [], f",cipher=maybe,key={good}"),
+        ("a lowest version of 3", "(30)", [], ",lowest=3"),
+        ("a lowest version of 3 beside a short key: the key comes first", "(36)", [],
+         options("only", short, lowest=3)),
+    ]
+    await asyncio.gather(*[_refused(ground, check, *case) for case in cases])
     return (check,)
 
 
-async def _refused(ground, check, name, words, text):
+async def _refused(ground, check, name, words, fronts, text):
     relay = Relay(ground.program, ground.folder)
     # Port 9 of this machine: nothing needs to be there.
     publishers = [f"{PUBLISHER_IP}:9{text}"] + [f"{PUBLISHER_IP}:9"] * 7
-    relay.spawn(["--card", "x25519", *words], publishers)
+    await relay.spawn(["--card", "x25519", *fronts], publishers)
     code = await relay.exit_code(3)
-    check.that(code is not None and code > 0, f"{name}: exit code {code}; {relay.words()}")
+    # A usage page may follow, which has many words.
+    said = relay.words().partition("\n")[0]
+    check.that(code == 1 and words in said, f"{name}: exit code {code}; {said!r}, not {words!r}")
     await relay.stop()
+
+
+# Bytes of an opening that are let through: none, parts of a Nonce, all of it,
+# parts of a Handshake inside its blocks and between them.
+KEPT = (0, 1, 4, 11, 12, 40, 75, 76, 77, 80, 88, 91, 92, 93, 100, 108, 109, 119)
 
 
 async def silence(ground):
     check = Check("silence in the opening ends the connection")
-    rows = [(options("only", key_path(ground.folder, KEY)), Settings("only", KEY))] * 8
-    async with ground.stage(rows, opening=250) as stage:
+    fronts = Settings("either", FRONT_KEY)
+    async with ground.stage([ground.row("only")] * 8, fronts=fronts, opening=600) as stage:
         await stage.all_open()
-
-        async def publisher(index):
-            script = Script(Settings("only", KEY), silent=True)
-            stage.publishers[index].use(script)
-            await first_of(2.0, script.taken)
-            check.that(await stage.ended(script, 2.0), f"publisher {index} stays linked")
-
-        await asyncio.gather(*[publisher(index) for index in range(8)])
-        for keep in (0, 1, 40, 75, 76, 77, 100):
-            front = await stage.front(damage=_only(keep))
-            check.that(await front.ended(2.0), f"a front stays linked that sent {keep} bytes")
-            await stage.leave(front)
+        for turn, mode in enumerate(MODES):
+            publishers = enumerate(KEPT[turn * 6:turn * 6 + 6])
+            await asyncio.gather(*[_silent_publisher(stage, check, *row) for row in publishers],
+                                 *[_silent_front(stage, check, mode, kept) for kept in KEPT])
+        await stage.settle(check)
     return (check,)
+
+
+async def _silent_publisher(stage, check, index, kept):
+    script = Script(Settings("only", KEY), damage=_only(kept))
+    stage.publishers[index].use(script)
+    await first_of(2.0, script.taken)
+    check.that(await stage.refused(script, UNOPENED, 2.0),
+               f"publisher {index} stays linked that sent {kept} bytes")
+    stage.drop(script)
+
+
+async def _silent_front(stage, check, mode, kept):
+    front = await stage.front(Settings(mode, FRONT_KEY), damage=_only(kept))
+    check.that(await stage.refused_front(front, UNOPENED, 2.0),
+               f"a {mode} front stays linked that sent {kept} bytes")
+    await stage.leave(front)
 
 
 def _only(count):

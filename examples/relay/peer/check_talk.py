@@ -8,12 +8,11 @@ import random
 
 from . import messages
 from .book import noise
-from .ground import FRONT_KEY, KEY, VERSIONS
-from .link import Settings
+from .ground import FRONT_KEY, KEY
+from .link import VERSIONS, Settings
 from .publisher import Script
-from .relay import key_path
 from .report import Check
-from .stage import PATIENCE, options
+from .stage import PATIENCE
 
 SIZES = (*range(0, 36), 47, 48, 63, 64, 65, 100, 251, 252, 253, 254, 255, 256, 257, 1000,
          1023, 1024, 1025, 4079, 4095, 4096, 4097, 8191, 8192, 16384, 20001, 32767, 32768,
@@ -22,16 +21,15 @@ SIZES = (*range(0, 36), 47, 48, 63, 64, 65, 100, 251, 252, 253, 254, 255, 256, 2
 
 def mixed(ground):
     """Eight publishers, each with settings of its own."""
-    path = key_path(ground.folder, KEY)
     return [
-        (options("clear"), Settings("clear")),
-        (options("clear", padded="yes"), Settings("clear", padded=True)),
-        (options("only", path, lowest=0), Settings("only", KEY, 0)),
-        (options("only", path, padded="no", lowest=1), Settings("only", KEY, 1)),
-        (options("only", path, padded="yes", lowest=2), Settings("only", KEY, 2)),
-        (options("either", path, padded="no"), Settings("clear", crc32c=False)),
-        (options("either", path, padded="yes"), Settings("clear", padded=True, crc32c=False)),
-        (options("either", path), Settings("either", KEY, crc32c=False)),
+        ground.row("clear"),
+        ground.row("clear", Settings("clear", padded=True), padded="yes"),
+        ground.row("only", Settings("only", KEY, 0), lowest=0),
+        ground.row("only", Settings("only", KEY, 1), padded="no", lowest=1),
+        ground.row("only", Settings("only", KEY, 2), padded="yes", lowest=2),
+        ground.row("either", Settings("clear", crc32c=False), padded="no"),
+        ground.row("either", Settings("clear", padded=True, crc32c=False), padded="yes"),
+        ground.row("either", Settings("either", KEY, crc32c=False)),
     ]
 
 
@@ -148,7 +146,7 @@ async def _eight_lengths(ground, check, lengths):
     # Zeros in the first four bytes are fit as long as one byte is not zero.
     firsts = itertools.cycle((b"\0\0\0\1", b"\1\0\0\0", b"\xff" * 4, b"abcd", b"\n\0\n\0"))
     keys = [next(firsts) + os.urandom(length - 4) for length in lengths]
-    rows = [(options("only", key_path(ground.folder, key)), Settings("only", key)) for key in keys]
+    rows = [ground.row("only", key=key) for key in keys]
     fronts = Settings("only", keys[-1])
     async with ground.stage(rows, fronts=fronts) as stage:
         fronts = [await stage.front(Settings("only", keys[-1], version)) for version in VERSIONS]
@@ -199,7 +197,8 @@ LONGEST_PAGE = 16777215 - 16 - 8
 async def longest(ground):
     check = Check("the longest packets, there and back through ciphers; one byte more ends the link")
     # Of the two checksums the one that costs us less time.
-    rows = [(options("only", key_path(ground.folder, KEY)), Settings("only", KEY, crc32c=False))] * 8
+    usual = Settings("only", KEY, crc32c=False)
+    rows = [ground.row("only", usual)] * 8
     async with ground.stage(rows, fronts=Settings("only", FRONT_KEY), ping=60000) as stage:
         await stage.all_open()
         front = await stage.open_front(Settings("only", FRONT_KEY, crc32c=False))
@@ -208,10 +207,11 @@ async def longest(ground):
             answer = await front.ask(0, payload, 30.0)
             check.that(stage.book.judge(payload, answer), f"{size} there, {answer_size} back")
         await front.ask(0, noise(LONGEST_REQUEST + 1), 30.0)
-        check.that(front.wire.done.is_set() and front.wire.ended_by_other, "a request too long")
+        check.that(await stage.refused_front(front, 2), "a request too long")
         front = await stage.open_front(Settings("only", FRONT_KEY, crc32c=False))
-        script = Script(rows[0][1], only_size=LONGEST_PAGE + 1)
+        script = Script(usual, only_size=LONGEST_PAGE + 1)
         opened = await stage.play(1, script)
         answer = await stage.ask_until_hit(front, 1, script, 40, LONGEST_PAGE + 1)
-        check.that(opened and answer is False and await stage.ended(script), "an answer too long")
+        check.that(opened and answer is False and await stage.refused(script, 2), "an answer too long")
+        await stage.settle(check)
     return (check,)

@@ -4,11 +4,10 @@ import asyncio
 import itertools
 
 from . import messages
-from .book import noise
+from .check_padding import spoilt_answer, spoilt_request
 from .check_talk import mixed
 from .ground import FRONT_KEY
 from .link import Settings
-from .publisher import Script
 from .report import Check
 from .stage import PATIENCE
 
@@ -32,29 +31,11 @@ async def _clear_padding(stage, front):
     check = Check("clear links: padding and words judged if padded, a word refused if not")
     for index, fault in itertools.product((1, 6), ("zeros", "words")):
         for size in (37, 38, 39):
-            await _spoilt_answer(stage, front, check, index, size, fault)
+            await spoilt_answer(stage, front, check, size, fault, index)
     for index in (0, 5):
-        await _spoilt_answer(stage, front, check, index, 37, "one word")
+        await spoilt_answer(stage, front, check, 37, "one word", index)
+    await stage.settle(check)
     return check
-
-
-async def _spoilt_answer(stage, front, check, index, size, fault):
-    def answer(script, wire, number, payload):
-        stage.book.spoilt.add(payload)
-        going = wire.link.going
-        going.words({"zeros": 0, "words": 4 - going.trailing, "one word": 1}[fault])
-        page = stage.book.look_up(payload)
-        going.packet(messages.RESULT, messages.result(number, page), fault == "zeros")
-        wire.link.push("answer")
-        wire.wake()
-
-    script = Script(stage.publishers[index].usual.settings, answer=answer, only_size=size)
-    opened = await stage.play(index, script)
-    right = await stage.ask_until_hit(front, index, script, 40, size)
-    ended = await stage.ended(script, 1.5)
-    check.that(opened and ended and right is False,
-               f"publisher {index}, {size} bytes, {fault}: opened {opened}, ended {ended}, {right}")
-    stage.drop(script)
 
 
 def _joiner(book, publisher, count):
@@ -137,18 +118,6 @@ async def padded_fronts(ground):
             await _joined_requests(stage, check, count, settings)
             await _joined_requests(stage, check, count, Settings("only", FRONT_KEY, count % 3))
         for fault, size in itertools.product(("zeros", "words"), (37, 38, 39)):
-            await _spoilt_request(stage, check, settings, fault, size)
+            await spoilt_request(stage, check, settings, size, fault)
+        await stage.settle(check)
     return (check,)
-
-
-async def _spoilt_request(stage, check, settings, fault, size):
-    front = await stage.open_front(settings)
-    going = front.link.going
-    if fault == "words":
-        going.words(4 - going.trailing)
-    # Not in the book: a publisher that gets it finds it strange.
-    going.packet(messages.INVOKE, messages.invoke(5, 0, noise(size)), fault == "zeros")
-    front.link.push("invoke")
-    front.wire.wake()
-    check.that(await front.ended(1.5), f"request of {size} bytes, {fault}: the link stays")
-    await stage.leave(front)

@@ -6,8 +6,9 @@ import random
 
 from .cipher import BLOCK
 from .damage import Once, change_nonce, flip, lose, swap, twice
-from .ground import FRONT_KEY, KEY, VERSIONS, same_id
-from .link import Settings, Twist
+from .ground import FRONT_KEY, KEY, same_id
+from .link import OWN_VERSION, VERSIONS, Settings, Twist
+from .mirror import BAD_POINT, UNOPENED, foretell
 from .publisher import Script
 from .report import Check
 from .stage import spread
@@ -25,47 +26,57 @@ SMALL_ORDER = [bytes.fromhex(text) for text in (
 )]
 
 
-async def refused_opening(stage, check, settings, twist, text, index, damage=None, nonce=False):
-    """The relay ends the connection, and no request comes through it.
+def refused_opening(stage, check, text, version=OWN_VERSION, twist=None, damage=None, want=None):
+    """A job: the relay refuses a publisher, and no request comes through.
 
     If it is our Nonce that is wrong, the relay does not even send a Handshake.
     Else its Handshake opens our side, which goes on answering Pings.
     """
-    script = Script(settings, twist or Twist(), damage=damage)
-    opened = await stage.play(index, script)
-    ended = await stage.ended(script)
-    check.that(ended and not script.requests and not (opened and nonce),
-               f"{text}: ended {ended}, opened {opened}, {len(script.requests)} requests")
-    stage.drop(script)
+
+    async def job(index):
+        script = Script(Settings("only", KEY, version), twist or Twist(), damage=damage)
+        opened = await stage.play(index, script)
+        refused = await stage.refused(script, want)
+        early = refused and foretell(script.wire).at_nonce
+        check.that(refused and not script.requests and not (opened and early),
+                   f"{text}: refused {refused}, opened {opened}, {len(script.requests)} requests")
+        stage.drop(script)
+
+    return job
 
 
-async def refused_front(stage, check, settings, twist, text, damage=None):
-    front = await stage.front(settings, twist=twist, damage=damage)
-    ended = await front.ended()
-    good = ended and front.wire.ended_by_other and not front.wire.opened.is_set()
-    check.that(good, f"{text}: ended {ended}, opened {front.wire.opened.is_set()}")
-    await stage.leave(front)
+def refused_front(stage, check, text, version=OWN_VERSION, key=FRONT_KEY, twist=None, damage=None,
+                  may_open=False, want=None):
+    """A job: the relay refuses a front."""
+
+    async def job(_):
+        front = await stage.front(Settings("only", key, version), twist=twist, damage=damage)
+        refused = await stage.refused_front(front, want)
+        opened = front.wire.opened.is_set()
+        check.that(refused and (may_open or not opened),
+                   f"front, {text}: refused {refused}, opened {opened}")
+        await stage.leave(front)
+
+    return job
+
+
+async def _run(stage, check, jobs, **more):
+    await spread(jobs, DAMAGED, check)
+    await stage.settle(check, **more)
 
 
 async def wrong_keys(stage, _):
     check = Check("keys that differ behind the first four bytes")
     jobs = []
     for version in VERSIONS:
-        for _ in range(8):
-            twist = Twist(out_key=same_id(KEY))
-            jobs.append(functools.partial(refused_opening, stage, check,
-                                          Settings("only", KEY, version), twist, f"version {version}"))
-            jobs.append(functools.partial(_unreadable, stage, check, version))
         # The smallest difference: one bit of the last byte, or one byte more.
-        for other in (KEY[:-1] + bytes([KEY[-1] ^ 1]), KEY + b"\0", KEY[:-1]):
-            jobs.append(functools.partial(refused_opening, stage, check,
-                                          Settings("only", KEY, version), Twist(out_key=other),
-                                          f"version {version}, {len(other)} bytes"))
-    await spread(jobs, DAMAGED, check)
-    for version in VERSIONS:
-        for other in (same_id(FRONT_KEY), FRONT_KEY + b"\0", FRONT_KEY[:-1]):
-            await refused_front(stage, check, Settings("only", other, version), None,
-                                 f"front, version {version}")
+        for key in [same_id(KEY) for _ in range(8)] + [flip(47, 0)(KEY), KEY + b"\0", KEY[:-1]]:
+            jobs.append(refused_opening(stage, check, f"version {version}, {len(key)} bytes", version,
+                                        Twist(out_key=key)))
+        for key in (same_id(FRONT_KEY), FRONT_KEY + b"\0", FRONT_KEY[:-1]):
+            jobs.append(refused_front(stage, check, f"version {version}", version, key))
+        jobs += [functools.partial(_unreadable, stage, check, version)] * 8
+    await _run(stage, check, jobs, keys=True)
     return (check,)
 
 
@@ -84,48 +95,86 @@ async def _unreadable(stage, check, version, index):
     stage.drop(script)
 
 
-async def key_ids(stage, front):
+async def key_ids(stage, _):
     check = Check("KeyIDs: zero, strange, one bit off")
-    others = [bytes(4), b"\xff" * 4, os.urandom(4)]
     jobs = []
-    for key_id in others + _one_bit_off(KEY[:4]):
-        jobs.append(functools.partial(refused_opening, stage, check, Settings("only", KEY),
-                                      Twist(key_id=key_id), f"KeyID {key_id.hex()}", nonce=True))
-    await spread(jobs, DAMAGED, check)
-    for key_id in others + _one_bit_off(FRONT_KEY[:4]):
-        await refused_front(stage, check, Settings("only", FRONT_KEY), Twist(key_id=key_id),
-                             f"front, KeyID {key_id.hex()}")
+    for job, key in ((refused_opening, KEY), (refused_front, FRONT_KEY)):
+        one_bit_off = [flip(bit // 8, bit % 8)(key[:4]) for bit in range(32)]
+        for key_id in [bytes(4), b"\xff" * 4, os.urandom(4), *one_bit_off]:
+            jobs.append(job(stage, check, f"KeyID {key_id.hex()}", twist=Twist(key_id=key_id), want=9))
+    await _run(stage, check, jobs)
     return (check,)
 
 
-def _one_bit_off(key_id):
-    return [flip(bit // 8, bit % 8)(key_id) for bit in range(32)]
+# ---- Nonces
+
+
+def _flipped_bits():
+    """All of a Nonce packet's header, and two of every other byte."""
+    for byte in range(76):
+        for bit in range(8) if byte < 12 else random.sample(range(8), 2):
+            yield byte, bit
+
+
+def _flipped_number(byte, bit):
+    """What refuses a Nonce packet of 76 bytes with this bit flipped."""
+    if byte < 4:
+        length = 76 ^ 1 << 8 * byte + bit
+        if length < 16:
+            return 1
+        if length >= 1024:
+            return 3
+        # The sum is looked for elsewhere, or still awaited.
+        return 6 if length < 76 else UNOPENED
+    return 4 if byte < 8 else 5 if byte < 12 else 6
+
+
+async def flipped_nonces(stage, _):
+    """Damage that nobody covers up: the packet's own rules find it."""
+    there = Check("a bit flipped at every byte of a publisher's Nonce")
+    back = Check("a bit flipped at every byte of a front's Nonce")
+    for job, check in ((refused_opening, there), (refused_front, back)):
+        jobs = [job(stage, check, f"byte {byte}, bit {bit}", random.choice(VERSIONS),
+                    damage=Once("nonce", flip(byte, bit)), want=_flipped_number(byte, bit))
+                for byte, bit in _flipped_bits()]
+        await _run(stage, check, jobs)
+    return there, back
 
 
 async def changed_nonces(stage, front):
-    """Both sides then know different Nonces, so their keys differ."""
+    """Both sides then know different Nonces, so their keys differ.
+
+    With another point (bytes 28 to 59) nobody here knows the relay's keys, so
+    only bounds hold there: one of the numbers 1, 3, 4, 5 and 6, or a wait.
+    """
     there = Check("a publisher's Nonce changed on the way, every byte")
     back = Check("a front's Nonce changed on the way, every byte")
     jobs = []
     for byte in range(60):
-        bits = range(8) if byte in (5, 59) else (random.randrange(7),)
-        for bit in bits:
-            damage = Once("nonce", change_nonce(byte, bit))
-            text = f"byte {byte}, bit {bit}"
-            # Flags are ignored, and so is the topmost bit of a point.
-            if byte in (6, 7) or (byte, bit) == (59, 7):
-                jobs.append(functools.partial(_still_opens, stage, front, there, damage, text))
-                continue
-            # Our side goes on though the relay's Handshake is noise to it: it is
-            # the relay that has to find out.
-            jobs.append(functools.partial(refused_opening, stage, there, Settings("only", KEY),
-                                          Twist(deaf=True), text, damage=damage))
-    await spread(jobs, DAMAGED, there)
+        for bit in range(8) if byte in (5, 59) else (random.randrange(7),):
+            jobs.append(_changed_answer(stage, front, there, byte, bit))
+    await _run(stage, there, jobs)
     # A client's encryption byte and version have several values of one meaning.
-    for byte in (*range(4), *range(8, 60)):
-        await refused_front(stage, back, Settings("only", FRONT_KEY), None, f"byte {byte}",
-                             Once("nonce", change_nonce(byte, random.randrange(7))))
+    jobs = [refused_front(stage, back, f"byte {byte}", want=9 if byte < 4 else None,
+                          damage=Once("nonce", change_nonce(byte, random.randrange(7))))
+            for byte in (*range(4), *range(8, 60))]
+    await _run(stage, back, jobs)
     return there, back
+
+
+def _changed_answer(stage, front, check, byte, bit):
+    damage, text = Once("nonce", change_nonce(byte, bit)), f"byte {byte}, bit {bit}"
+    # Flags are ignored, and so is the topmost bit of a point.
+    if byte in (6, 7) or (byte, bit) == (59, 7):
+        return functools.partial(_still_opens, stage, front, check, damage, text)
+    want = None
+    if byte < 5:
+        want = 9     # KeyID, encryption
+    elif byte == 5 and bit != 1:
+        want = 10    # bit 1 makes version 0 of version 2
+    # Our side goes on though the relay's Handshake is noise to it: it is the
+    # relay that has to find out.
+    return refused_opening(stage, check, text, twist=Twist(deaf=True), damage=damage, want=want)
 
 
 async def _still_opens(stage, front, check, damage, text, index):
@@ -133,6 +182,52 @@ async def _still_opens(stage, front, check, damage, text, index):
     opened = await stage.play(index, script)
     check.that(opened and await stage.ask_until_hit(front, index, script), f"{text}: opened {opened}")
     stage.drop(script)
+
+
+async def small_order_points(stage, front):
+    """The rules leave it to the card whether they are taken; those refused are counted so."""
+    check = Check("points of small order, from a publisher and a front: taken or counted as bad")
+    taken = []
+
+    async def publisher(point, index):
+        script = Script(Settings("only", KEY), Twist(point=point))
+        opened = await stage.play(index, script)
+        right = await stage.ask_until_hit(front, index, script) if opened else None
+        refused = not opened and await stage.refused(script, BAD_POINT)
+        taken.append(bool(right))
+        check.that(right or refused, f"{point.hex()}: opened {opened}, answered {right}")
+        stage.drop(script)
+
+    async def client(point, _):
+        mine = await stage.open_front(Settings("only", FRONT_KEY), twist=Twist(point=point))
+        opened = mine.wire.opened.is_set()
+        right = opened and await stage.ask(mine)
+        refused = not opened and await stage.refused_front(mine, BAD_POINT)
+        taken.append(bool(right))
+        check.that(right or refused, f"front, {point.hex()}: opened {opened}, answered {right}")
+        await stage.leave(mine)
+
+    await _run(stage, check, [functools.partial(job, point) for job in (publisher, client)
+                              for point in SMALL_ORDER])
+    check.note = f"{taken.count(True)} taken"
+    return (check,)
+
+
+# ---- Handshakes
+
+
+async def wrong_vectors(stage, _):
+    """Each bit of a vector is a bit of the first block that comes out."""
+    check = Check("a wrong starting vector, of a publisher and of a front")
+    jobs = []
+    for byte in range(BLOCK):
+        for bit in (0, random.randrange(1, 7), 7):
+            twist = Twist(vector_mask=flip(byte, bit)(bytes(BLOCK)))
+            for job in (refused_opening, refused_front):
+                jobs.append(job(stage, check, f"byte {byte}, bit {bit}", random.choice(VERSIONS),
+                                twist=twist))
+    await _run(stage, check, jobs)
+    return (check,)
 
 
 async def others_bytes(stage, front):
@@ -150,60 +245,31 @@ async def others_bytes(stage, front):
         await stage.play(index, script)
         await stage.ask_until_hit(front, index, script)
         stage.drop(script)
-        await refused_opening(stage, check, Settings("only", KEY, version), None, "old bytes",
-                               index, Once("handshake", lambda data: taken[-1]))
+        await refused_opening(stage, check, "old bytes", version,
+                              damage=Once("handshake", lambda data: taken[-1]))(index)
 
     async def own(version, index):
         script = Script(Settings("only", KEY, version), Twist())
         script.damage = Once("handshake", lambda data: script.wire.heard)
         await stage.play(index, script)
-        ended = await stage.ended(script)
-        check.that(ended and len(script.wire.heard) == 48, f"own bytes: ended {ended}")
+        refused = await stage.refused(script)
+        check.that(refused and len(script.wire.heard) == 48, f"own bytes: refused {refused}")
         stage.drop(script)
 
-    jobs = [functools.partial(job, version) for job in (old, own) for version in VERSIONS]
-    await spread(jobs, DAMAGED, check)
-    return (check,)
-
-
-async def wrong_vectors(stage, _):
-    """Each bit of a vector is a bit of the first block that comes out."""
-    check = Check("a wrong starting vector, of a publisher and of a front")
-    jobs = []
-    for byte in range(BLOCK):
-        for bit in (0, random.randrange(1, 7), 7):
-            twist = Twist(vector_mask=flip(byte, bit)(bytes(BLOCK)))
-            version, text = random.choice(VERSIONS), f"byte {byte}, bit {bit}"
-            jobs.append(functools.partial(refused_opening, stage, check,
-                                          Settings("only", KEY, version), twist, text))
-            jobs.append(functools.partial(_front_job, stage, check, None, "front, " + text,
-                                          Settings("only", FRONT_KEY, version), twist))
-    await spread(jobs, DAMAGED, check)
+    await _run(stage, check, [functools.partial(job, version) for job in (old, own)
+                              for version in VERSIONS], keys=True)
     return (check,)
 
 
 async def flipped_handshakes(stage, _):
     there = Check("a bit flipped at every byte of a publisher's Handshake")
     back = Check("a bit flipped at every byte of a front's Handshake")
-    jobs = []
-    for byte in range(48):
-        for bit in random.sample(range(8), 2):
-            damage = Once("handshake", flip(byte, bit))
-            text = f"byte {byte}, bit {bit}"
-            jobs.append(functools.partial(refused_opening, stage, there, Settings("only", KEY),
-                                          None, text, damage=damage))
-    await spread(jobs, DAMAGED, there)
-    jobs = []
-    for byte in range(48):
-        damage = Once("handshake", flip(byte, random.randrange(8)))
-        jobs.append(functools.partial(_front_job, stage, back, damage, f"byte {byte}",
-                                      Settings("only", FRONT_KEY), None))
-    await spread(jobs, DAMAGED, back)
+    for job, check in ((refused_opening, there), (refused_front, back)):
+        jobs = [job(stage, check, f"byte {byte}, bit {bit}",
+                    damage=Once("handshake", flip(byte, bit)))
+                for byte in range(48) for bit in random.sample(range(8), 2)]
+        await _run(stage, check, jobs)
     return there, back
-
-
-async def _front_job(stage, check, damage, text, settings, twist, _):
-    await refused_front(stage, check, settings, twist, text, damage)
 
 
 async def handshake_blocks(stage, _):
@@ -212,42 +278,13 @@ async def handshake_blocks(stage, _):
     for name, change, count in (("lost", lose, 3), ("twice", twice, 3), ("exchanged", swap, 2)):
         for block in range(count):
             text = f"block {block} {name}"
-            jobs.append(functools.partial(refused_opening, stage, check, Settings("only", KEY), None,
-                                          text, damage=Once("handshake", change(block))))
-            jobs.append(functools.partial(_ended_front, stage, check,
-                                          Once("handshake", change(block)), "front, " + text))
-    jobs += [functools.partial(refused_opening, stage, check, Settings("only", KEY, version),
-                               Twist(early_word=True), "a word before a Handshake")
-             for version in VERSIONS]
-    await spread(jobs, DAMAGED, check)
-    for version in VERSIONS:
-        await refused_front(stage, check, Settings("only", FRONT_KEY, version),
-                            Twist(early_word=True), "front, a word before a Handshake")
-    return (check,)
-
-
-async def _ended_front(stage, check, damage, text, index):
-    """As a front's last block sent twice leaves its Handshake whole, it may open first."""
-    front = await stage.front(Settings("only", FRONT_KEY), damage=damage)
-    ended = await front.ended()
-    check.that(ended and front.wire.ended_by_other, f"{text}: ended {ended}")
-    await stage.leave(front)
-
-
-async def small_order_points(stage, front):
-    """The rules leave it open whether they are taken; nothing else may break."""
-    check = Check("points of small order: taken or refused, and no harm")
-    taken = []
-
-    async def one(point, index):
-        script = Script(Settings("only", KEY), Twist(point=point))
-        opened = await stage.play(index, script)
-        right = await stage.ask_until_hit(front, index, script) if opened else None
-        refused = not opened and await stage.ended(script)
-        taken.append(bool(right))
-        check.that(right or refused, f"{point.hex()}: opened {opened}, answered {right}")
-        stage.drop(script)
-
-    await spread([functools.partial(one, point) for point in SMALL_ORDER], DAMAGED, check)
-    check.note = f"{taken.count(True)} taken"
+            jobs.append(refused_opening(stage, check, text,
+                                        damage=Once("handshake", change(block))))
+            # A last block sent twice leaves the Handshake whole, so it opens first.
+            jobs.append(refused_front(stage, check, text, damage=Once("handshake", change(block)),
+                                      may_open=text == "block 2 twice"))
+    # Words may stand only before the packets behind it: here one is a length.
+    jobs += [job(stage, check, "a word before a Handshake", version, twist=Twist(early_word=True),
+                 want=1) for job in (refused_opening, refused_front) for version in VERSIONS]
+    await _run(stage, check, jobs)
     return (check,)

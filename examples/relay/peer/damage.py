@@ -1,9 +1,10 @@
-"""Ways to damage ciphered bytes on their way."""
+"""Ways to damage bytes on their way, or to write padding against the rules."""
 
 import struct
 
 from .cipher import BLOCK
 from .sums import crc32
+from .wire import Last
 
 
 def flip(byte, bit):
@@ -30,6 +31,11 @@ def swap(block):
                          + data[at:at + BLOCK] + data[at + 2 * BLOCK:])
 
 
+def break_off(kept):
+    """So many bytes of a piece are a connection's last."""
+    return lambda data: Last(data[:kept])
+
+
 def change_nonce(byte, bit):
     """Another Nonce with a right checksum: what someone on the way can do."""
 
@@ -51,3 +57,15 @@ class Once:
             return data
         self.did = True
         return self.change(data)
+
+
+# Faults of padding, with the numbers that refuse them. A word of 4 is a length
+# where there is no padding.
+PADDING_FAULTS = {"zeros": 25, "words": 26, "one word": 1}
+
+
+def spoil(going, fault, kind, body):
+    """Writes a packet with this fault of padding before or behind it."""
+    # Words of the last flush count, too.
+    going.words({"zeros": 0, "words": 4 - going.trailing, "one word": 1}[fault])
+    going.packet(kind, body, spoil_zeros=fault == "zeros")

@@ -17,10 +17,11 @@ class Answer:
 
 
 class Front:
-    def __init__(self, settings=None, twist=None, cuts=None, damage=None, read_size=65536):
+    def __init__(self, settings=None, twist=None, cuts=None, damage=None, read_size=65536,
+                 other=None):
         self.settings = settings or Settings()
         self.twist, self.cuts, self.damage = twist, cuts, damage
-        self.read_size = read_size
+        self.read_size, self.other = read_size, other
         self.wire = self.link = None
         self.next_number = random.randrange(1, 1 << 40)
         self.asked = {}
@@ -33,7 +34,8 @@ class Front:
         here = address_of(writer.get_extra_info("sockname"))
         there = address_of(writer.get_extra_info("peername"))
         self.link = Link(True, self.settings, here, there, self.twist)
-        self.wire = Wire(reader, writer, self.link, self.cuts, self.damage, self.read_size)
+        self.wire = Wire(reader, writer, self.link, self.cuts, self.damage, self.read_size,
+                         self.other)
         self._task = asyncio.ensure_future(self._run())
 
     async def _run(self):
@@ -58,8 +60,9 @@ class Front:
         return self.wire.opened.is_set()
 
     async def ended(self, limit=3.0):
+        """True if the relay has ended the connection."""
         await first_of(limit, self.wire.done)
-        return self.wire.done.is_set()
+        return self.wire.done.is_set() and self.wire.ended_by_other
 
     async def ask(self, actor, payload, limit=3.0):
         """An Answer; None if the link ended or nothing came in time."""

@@ -22,6 +22,8 @@ PONG = 0x8430EAA7
 
 USE_CRC32C = 0x800
 OFFERS = {"clear": 0, "only": 1, "either": 2}
+MODES = tuple(OFFERS)
+VERSIONS = (0, 1, 2)
 OWN_VERSION = 2
 
 
@@ -121,13 +123,21 @@ class Link:
         self.version = None
         self.crc32c = False
         self.mute = False                       # answers no Ping
-        self.pings = self.pongs = 0             # those that came
+        self.pinged = []                        # bodies of the Pings that came
+        self.pongs = 0                          # those that came
         self.ping_sent = None
         self.lost = False                       # deaf, and what comes is noise
 
     @property
     def is_open(self):
         return self.awaited is None
+
+    @property
+    def is_twisted(self):
+        return self.twist != Twist()
+
+    def clock(self):
+        return int(time.time())
 
     # ---- what this side sends
 
@@ -158,7 +168,7 @@ class Link:
             encryption if twist.encryption is None else twist.encryption,
             version if twist.version is None else twist.version,
             0,
-            int(time.time()) + twist.time_shift,
+            self.clock() + twist.time_shift,
             os.urandom(16),
             point if twist.point is None else twist.point,
         )
@@ -218,7 +228,7 @@ class Link:
 
     def _take_nonce(self, nonce):
         self.theirs = nonce
-        if abs(nonce.time - int(time.time())) > 30:
+        if abs(nonce.time - self.clock()) > 30:
             raise Fault(8, "clocks")
         if nonce.version < self.settings.lowest:
             raise Fault(24, f"version {nonce.version}")
@@ -246,7 +256,7 @@ class Link:
         if choice is None:
             choice = server_choice(self.settings.mode, nonce.encryption)
         self.ciphered = choice == 1
-        if self.twist == Twist():
+        if not self.is_twisted:
             # A dishonest server leaves it to the other side to refuse.
             self._judge_key_id(nonce)
         version = min(nonce.version, self.settings.version)
@@ -310,7 +320,7 @@ class Link:
 
     def _take_ping(self, body):
         self._judge_ping_size(body)
-        self.pings += 1
+        self.pinged.append(body)
         if not self.mute:
             self.send(PONG, body, "pong")
 

@@ -22,7 +22,6 @@ class Script:
     mute: bool = False           # answers no Ping
     answer: object = None        # (script, wire, number, payload): in place of the usual one
     only_size: int = None        # pages of another size are sent as usual, and do not count
-    silent: bool = False         # sends nothing at all
 
     def __post_init__(self):
         self.wire = None
@@ -33,13 +32,14 @@ class Script:
 
 
 class Publisher:
-    def __init__(self, index, book, usual):
+    def __init__(self, index, book, usual, other=None):
         self.index, self.book, self.usual = index, book, usual
+        self.other = other           # the relay's Settings towards this publisher
         self.waiting = []
         self.wires = {}              # of running connections, with their scripts
+        self.all_wires = []          # also of those that are over
         self.server = None
         self.address = None
-        self.connections = 0
         self.points = []             # the relay's points, of all connections
         self.randoms = []
         self.faults = []             # what honest connections had to refuse, but for 9
@@ -67,10 +67,8 @@ class Publisher:
         there = address_of(writer.get_extra_info("peername"))
         link = Link(False, script.settings, here, there, script.twist)
         link.mute = script.mute
-        wire = Wire(reader, writer, link, script.cuts, script.damage, script.read_size)
-        if script.silent:
-            wire.damage = lambda name, data: b""
-        self.connections += 1
+        wire = Wire(reader, writer, link, script.cuts, script.damage, script.read_size, self.other)
+        self.all_wires.append(wire)
         self.wires[wire] = script
         script.wire = wire
         script.taken.set()

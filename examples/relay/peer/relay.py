@@ -3,8 +3,11 @@
 import asyncio
 import os
 import socket
-import subprocess
 import tempfile
+from asyncio.subprocess import PIPE
+from collections import Counter
+
+PATIENCE = 4.0   # seconds until something that must happen counts as missing
 
 
 def free_port(ip):
@@ -35,47 +38,53 @@ class Relay:
         self.process = None
         self.log = None
 
-    def spawn(self, options, publishers):
+    async def spawn(self, options, publishers):
         self.log = tempfile.NamedTemporaryFile(dir=self.folder, prefix="relay-", delete=False)
-        self.process = subprocess.Popen(
-            [self.program, *options, "%s:%d" % self.address, *publishers],
-            stdin=subprocess.DEVNULL, stdout=self.log, stderr=self.log)
+        self.process = await asyncio.create_subprocess_exec(
+            self.program, *options, "%s:%d" % self.address, *publishers,
+            stdin=PIPE, stdout=PIPE, stderr=self.log)
 
     async def start(self, options, publishers):
-        """Starts it and waits until it listens."""
-        self.spawn(options, publishers)
-        for _ in range(300):
-            if not self.is_running():
-                break
-            try:
-                _, writer = await asyncio.open_connection(*self.address)
-            except OSError:
-                await asyncio.sleep(0.01)
-                continue
-            writer.close()
-            return
-        raise RuntimeError("the relay does not listen: " + self.words())
+        """Starts it and waits until it says that it listens."""
+        await self.spawn(options, publishers)
+        line = await self._line()
+        if line != "listening on %s:%d" % self.address:
+            await self.exit_code(1)
+            raise RuntimeError(f"the relay says {line!r} first; {self.words()}")
+
+    async def _line(self):
+        line = await asyncio.wait_for(self.process.stdout.readline(), PATIENCE)
+        return line.decode("utf-8", "replace").strip()
+
+    async def counts(self):
+        """Its counts by their words; those that it leaves out are 0."""
+        self.process.stdin.write(b"counts\n")
+        await self.process.stdin.drain()
+        first, *words = (await self._line()).split()
+        if first != "counts" or len(words) % 2:
+            raise RuntimeError(f"no counts: {first} {words}")
+        return Counter(dict(zip(words[::2], map(int, words[1::2]))))
 
     def is_running(self):
-        return self.process.poll() is None
+        return self.process.returncode is None
 
     def words(self):
-        """The end of what it printed."""
+        """What it has printed for people."""
         with open(self.log.name, "rb") as file:
-            return file.read()[-400:].decode("utf-8", "replace").strip()
+            return file.read().decode("utf-8", "replace").strip()
 
     async def exit_code(self, limit):
         """Its exit code, or None if it still runs after so many seconds."""
-        for _ in range(int(limit / 0.01)):
-            if not self.is_running():
-                break
-            await asyncio.sleep(0.01)
-        return self.process.poll()
+        try:
+            return await asyncio.wait_for(self.process.wait(), limit)
+        except asyncio.TimeoutError:
+            return None
 
     async def stop(self):
         if self.is_running():
             self.process.terminate()
         if await self.exit_code(2) is None:
             self.process.kill()
-            self.process.wait()
+            await self.process.wait()
+        self.process.stdin.close()
         self.log.close()

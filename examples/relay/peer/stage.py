@@ -6,15 +6,17 @@ certain one asks until that one has been reached.
 
 import asyncio
 import random
-from collections import deque
+from collections import Counter, deque
+from dataclasses import dataclass
 
 from .front import Front, first_of
 from .link import Settings
+from .mirror import foretell
 from .publisher import Publisher, Script
-from .relay import Relay, key_path
+from .relay import PATIENCE, Relay, key_path
+from .tally import differences
 
 PUBLISHERS = 8
-PATIENCE = 4.0   # seconds until something that must happen counts as missing
 
 # The publishers' addresses differ from the relay's own, so that version 0,
 # which has addresses in its keys, would show any that are exchanged.
@@ -34,6 +36,15 @@ def options(mode="clear", key_path=None, padded=None, lowest=None):
     return text
 
 
+@dataclass(frozen=True)
+class Row:
+    """One publisher."""
+
+    text: str           # the relay's settings towards it, for the command line
+    relay: Settings     # the same, for the mirrors
+    usual: Settings     # its own, unless a script has others
+
+
 class Stage:
     routes = None    # publisher to actor, once learnt; the same for every relay
 
@@ -41,18 +52,21 @@ class Stage:
         self.program, self.folder, self.book = program, folder, book
         self.publishers = []
         self.fronts = []
+        self.front_wires = []       # also of fronts that have left
+        self.settled = set()        # wires whose verdict has been held against the counts
+        self.counts = Counter()     # as they were then
         self.relay = None
         self.fronts_settings = Settings()
 
-    async def start(self, publishers, fronts=Settings(), retry=15, ping=2000, opening=1500):
-        """`publishers` holds eight pairs: the relay's options, our usual settings."""
+    async def start(self, rows, fronts=Settings(), retry=15, ping=2000, opening=1500):
+        """`fronts` are the relay's settings towards all fronts, and usually theirs."""
         self.fronts_settings = fronts
         texts = []
-        for index, (text, settings) in enumerate(publishers):
-            publisher = Publisher(index, self.book, Script(settings))
+        for index, row in enumerate(rows):
+            publisher = Publisher(index, self.book, Script(row.usual), row.relay)
             await publisher.start(PUBLISHER_IP)
             self.publishers.append(publisher)
-            texts.append("%s:%d" % publisher.address + text)
+            texts.append("%s:%d" % publisher.address + row.text)
         words = ["--retry-ms", str(retry), "--ping-ms", str(ping),
                  "--opening-ms", str(opening), "--card", "x25519",
                  "--fronts-cipher", fronts.mode]
@@ -74,9 +88,10 @@ class Stage:
 
     async def front(self, settings=None, **more):
         """A front that has connected; not necessarily open."""
-        front = Front(settings or self.fronts_settings, **more)
+        front = Front(settings or self.fronts_settings, other=self.fronts_settings, **more)
         await front.connect(self.relay.address, FRONT_IP)
         self.fronts.append(front)
+        self.front_wires.append(front.wire)
         return front
 
     async def open_front(self, settings=None, **more):
@@ -103,6 +118,42 @@ class Stage:
                 return True
             await asyncio.sleep(0.01)
         return False
+
+    # ---- what the relay must have counted
+
+    @property
+    def wires(self):
+        """Those of all connections so far."""
+        return self.front_wires + [wire for publisher in self.publishers
+                                   for wire in publisher.all_wires]
+
+    def _verdicts(self):
+        """Of connections that ended since the counts were last looked at.
+
+        One that we ended without damage cannot have been refused.
+        """
+        new = [wire for wire in self.wires if wire.done.is_set() and wire not in self.settled]
+        return new, [foretell(wire) for wire in new
+                     if wire.ended_by_other or wire.damage or wire.link.is_twisted]
+
+    async def settle(self, check, keys=False):
+        """One case: the counts grew since the last time as the mirrors foretell.
+
+        With `keys`, every ciphered Handshake that could not be read was so by its key.
+        """
+        loop = asyncio.get_running_loop()
+        until = loop.time() + 2
+        while True:
+            wires, verdicts = self._verdicts()
+            counts = await self.relay.counts()
+            wrong = differences(self.counts, counts, verdicts, keys)
+            if not wrong or loop.time() > until:
+                break
+            # It may close a connection before it counts it.
+            await asyncio.sleep(0.02)
+        self.settled.update(wires)
+        self.counts = counts
+        check.that(not wrong, "counts: " + "; ".join(wrong))
 
     # ---- asking
 
@@ -181,10 +232,23 @@ class Stage:
     @staticmethod
     async def ended(script, limit=PATIENCE):
         """True if the relay has ended the script's connection."""
+        return await Stage.over(script, limit) and script.wire.ended_by_other
+
+    @staticmethod
+    async def over(script, limit=PATIENCE):
         if script.wire is None:
             return False
         await first_of(limit, script.wire.done)
-        return script.wire.done.is_set() and script.wire.ended_by_other
+        return script.wire.done.is_set()
+
+    @staticmethod
+    async def refused(script, want=None, limit=PATIENCE):
+        """True if the relay has ended it and had to, by this number or word if given."""
+        return await Stage.ended(script, limit) and foretell(script.wire).by(want)
+
+    @staticmethod
+    async def refused_front(front, want=None, limit=PATIENCE):
+        return await front.ended(limit) and foretell(front.wire).by(want)
 
     @staticmethod
     def drop(script):

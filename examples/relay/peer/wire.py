@@ -56,17 +56,27 @@ class Bytewise(Whole):
             yield data[at:at + 1]
 
 
+class Last(bytes):
+    """A connection's last bytes, if a damage gives them back: then we hang up."""
+
+
 class Wire:
-    def __init__(self, reader, writer, link, cuts=None, damage=None, read_size=65536):
+    def __init__(self, reader, writer, link, cuts=None, damage=None, read_size=65536, other=None):
         self.reader, self.writer, self.link = reader, writer, link
         self.cuts = cuts or Whole()
         self.damage = damage            # (name, bytes) to the bytes really sent
         self.read_size = read_size
+        self.other = other              # the relay's Settings for this connection
         self.fault = None               # ours, about what came
+        self.broken = None              # an error of this peer's own code
         self.ended_by_other = False
+        self.left = False               # it was we who ended it
         self.opened = asyncio.Event()
         self.done = asyncio.Event()
         self.heard = b""               # the bytes of the last read
+        self.sent = []                  # what really left, piece by piece
+        self.began = None               # the clock when the first of it did
+        self.verdict = None
         self._work = asyncio.Event()
 
     def wake(self):
@@ -82,10 +92,12 @@ class Wire:
                 self.wake()
             await self._read(on_packet)
         except Fault as fault:
-            self.fault = fault
-            await self._drain()
+            self.fault, self.left = fault, True
+            await self._pump(once=True)
         except (ConnectionError, OSError):
-            self.ended_by_other = True
+            self.ended_by_other = not self.left
+        except Exception as error:
+            self.broken = error
         finally:
             pump.cancel()
             self.writer.close()
@@ -95,7 +107,7 @@ class Wire:
         while True:
             data = await self.reader.read(self.read_size)
             if not data:
-                self.ended_by_other = True
+                self.ended_by_other = not self.left
                 return
             self.heard = data
             packets = self.link.receive(data)
@@ -105,14 +117,19 @@ class Wire:
             for kind, body in packets:
                 on_packet(self, kind, body)
 
-    async def _pump(self):
+    async def _pump(self, once=False):
         try:
-            while True:
+            while not once:
                 await self._work.wait()
                 self._work.clear()
                 await self._drain()
+            await self._drain()
         except (ConnectionError, OSError):
             pass  # the reader sees the end, too
+        except Exception as error:
+            # Else our silence would pass for the relay's refusal.
+            self.broken = error
+            self.abort()
 
     async def _drain(self):
         while self.link.outbox:
@@ -122,10 +139,26 @@ class Wire:
             for piece in self.cuts.pieces(data):
                 if self.writer.is_closing():
                     return
-                self.writer.write(piece)
+                self._write(piece)
                 await self.writer.drain()
                 if self.cuts.pause and piece is not data:
                     await asyncio.sleep(self.cuts.pause)
+            if isinstance(data, Last):
+                self._hang_up()
+
+    def _write(self, piece):
+        if piece:
+            self.began = self.began or self.link.clock()
+            self.sent.append(bytes(piece))
+            self.writer.write(piece)
+
+    def _hang_up(self):
+        """Ends our half; the relay then ends its own once it has read all."""
+        self.left = True
+        self.damage = lambda name, data: b""
+        self.writer.write_eof()
 
     def abort(self):
+        if not self.done.is_set():
+            self.left = True
         self.writer.transport.abort()

@@ -8,6 +8,7 @@ use crate::card::CardKind;
 use crate::network::{Options, Publisher};
 use crate::settings::{self, LinkSettings};
 use link::LinkWords;
+use std::collections::HashSet;
 use std::net::SocketAddr;
 use std::time::Duration;
 
@@ -71,7 +72,11 @@ fn line(mut words: impl Iterator<Item = String>) -> Result<Line, String> {
         fronts: LinkWords::new(settings::FRONT),
         card: None,
     };
+    let mut said = HashSet::new();
     while let Some(word) = words.next() {
+        if word.starts_with("--") && !said.insert(word.clone()) {
+            return Err(usage(format!("{word} twice")));
+        }
         let mut value = || words.next().ok_or_else(|| USAGE.to_string());
         match word.as_str() {
             "--retry-ms" => line.retry = milliseconds(&value()?)?,

@@ -1,5 +1,6 @@
 //! What the relay has done so far, in numbers.
 
+use relay::Refusal;
 use std::collections::BTreeMap;
 use std::fmt;
 
@@ -33,11 +34,8 @@ pub struct Counts {
     pub pongs: u64,
     /// Connections that we ended, for whatever reason.
     pub dropped: u64,
-    /// Those of them whose Nonce had a version below the lowest (24).
-    pub too_old: u64,
-    /// Those of them whose Nonce named an encryption that the link does not take,
-    /// or another key (9).
-    pub not_agreed: u64,
+    /// Those of them that broke a rule, by the refusal's number.
+    pub faults: BTreeMap<u8, u64>,
     /// Those of them whose ciphered Handshake could not be read.
     pub other_keys: u64,
     /// Those of them whose point the card refused.
@@ -62,9 +60,26 @@ impl Counts {
         ];
         self.asked - ended.iter().sum::<u64>()
     }
+
+    /// Connections that ended by this refusal.
+    pub fn faults_of(&self, refusal: Refusal) -> u64 {
+        self.faults.get(&refusal.number()).copied().unwrap_or(0)
+    }
+
+    /// Those whose Nonce had a version below the lowest (24).
+    pub fn too_old(&self) -> u64 {
+        self.faults_of(Refusal::VERSION_TOO_OLD)
+    }
+
+    /// Those whose Nonce named an encryption that the link does not take, or
+    /// another key (9).
+    pub fn not_agreed(&self) -> u64 {
+        self.faults_of(Refusal::ENCRYPTION)
+    }
 }
 
-/// Words and numbers in turn, on one line; `refused_32` and so on at the end.
+/// Words and numbers in turn, on one line; `refused_32`, `fault_6` and so on at the
+/// end.
 impl fmt::Display for Counts {
     fn fmt(&self, f: &mut fmt::Formatter) -> fmt::Result {
         let named = [
@@ -83,8 +98,8 @@ impl fmt::Display for Counts {
             ("pings", self.pings),
             ("pongs", self.pongs),
             ("dropped", self.dropped),
-            ("too_old", self.too_old),
-            ("not_agreed", self.not_agreed),
+            ("too_old", self.too_old()),
+            ("not_agreed", self.not_agreed()),
             ("other_keys", self.other_keys),
             ("bad_points", self.bad_points),
             ("unopened", self.unopened),
@@ -97,6 +112,9 @@ impl fmt::Display for Counts {
         }
         for (code, count) in &self.refused {
             write!(f, " refused_{code} {count}")?;
+        }
+        for (number, count) in &self.faults {
+            write!(f, " fault_{number} {count}")?;
         }
         Ok(())
     }

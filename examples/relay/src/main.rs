@@ -8,8 +8,9 @@
 //! it goes through the cipher, with the file of its key. `--fronts-cipher` and
 //! `--fronts-key` say the same of the front ends, and `--card` where the points of
 //! ciphered links come from; without one no link may cipher. It prints the address
-//! on which it listens, the counts for each line on standard input, and on standard
-//! error what an operator has to know of keys that do not fit.
+//! on which it listens, for each line on standard input the counts (`fault_N`:
+//! connections that refusal N ended), and on standard error what an operator has to
+//! know of keys that do not fit.
 
 use relay_example::arguments;
 use relay_example::network::serve;

@@ -1,9 +1,11 @@
 //! Sockets and threads around the core. One thread reads each connection, one
 //! writes it, and one thread owns the core and the clock, so that events have
-//! one order. The core's thread never waits for a peer: what it sends is queued.
+//! one order. The core's thread never waits for a peer: what it sends is queued,
+//! and one more thread prints its warnings.
 
 mod connect;
 mod connection;
+mod printer;
 mod serve;
 mod server;
 mod stream;

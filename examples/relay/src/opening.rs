@@ -45,24 +45,28 @@ impl Core {
         }
     }
 
-    /// Counts why a connection ends, where operations have to know.
+    /// Counts why a connection ends, and warns where operations have to know.
     pub(crate) fn count(&mut self, peer: Peer, fault: Fault) {
-        let has_other_keys = self.connection(peer).is_some_and(|connection| {
-            // The first that went through the cipher cannot be read.
-            connection.session.is_ciphered() && !connection.is_handshaken
-        });
-        match fault {
-            Fault::Refused(Refusal::VERSION_TOO_OLD) => self.counts.too_old += 1,
-            Fault::Refused(Refusal::ENCRYPTION) => self.counts.not_agreed += 1,
-            Fault::Refused(_) if has_other_keys => {
-                self.counts.other_keys += 1;
-                self.actions.push(Action::Warn(peer, Warning::OtherKeys));
-            }
-            Fault::Refused(_) => {}
-            Fault::Card => {
-                self.counts.bad_points += 1;
-                self.actions.push(Action::Warn(peer, Warning::BadPoint));
-            }
+        let Some(connection) = self.connection(peer) else {
+            return;
+        };
+        let is_first = connection.session.is_ciphered() && !connection.is_handshaken;
+        let Fault::Refused(refusal) = fault else {
+            self.counts.bad_points += 1;
+            return self.actions.push(Action::Warn(peer, Warning::BadPoint));
+        };
+        *self.counts.faults.entry(refusal.number()).or_default() += 1;
+        // Under other keys the first packet that went through the cipher has a
+        // wrong length or number. If what is judged after them is wrong, the keys
+        // were right.
+        let by_other_keys = [
+            Refusal::LENGTH_UNDER_16,
+            Refusal::LENGTH_IN_OPENING,
+            Refusal::PACKET_NUMBER,
+        ];
+        if is_first && by_other_keys.contains(&refusal) {
+            self.counts.other_keys += 1;
+            self.actions.push(Action::Warn(peer, Warning::OtherKeys));
         }
     }
 

@@ -15,7 +15,7 @@ pub trait Card {
 
     /// The bytes that both sides share, by the point of the other side's Nonce;
     /// none if it is no point to share anything by. Asked once at most, and in
-    /// version 2 only.
+    /// version 2 only. A panic closes the session, like none.
     fn shared(&mut self, theirs: &[u8; 32]) -> Option<[u8; 32]>;
 }
 

@@ -92,6 +92,7 @@ impl Input {
 #[cfg(test)]
 mod tests {
     use super::*;
+    use crate::{Addresses, Card, Cipher, Moment, Session, Settings, Side, ToSend};
 
     #[test]
     fn a_long_buffer_is_kept_only_while_a_packet_needs_it() {
@@ -115,5 +116,37 @@ mod tests {
         input.seal();
         input.feed(&[1; 100]);
         assert_eq!(input.clear(), []);
+    }
+
+    struct Ones;
+
+    impl Card for Ones {
+        fn point(&mut self) -> [u8; 32] {
+            [1; 32]
+        }
+
+        fn shared(&mut self, _: &[u8; 32]) -> Option<[u8; 32]> {
+            Some([1; 32])
+        }
+    }
+
+    #[test]
+    fn a_closed_session_has_no_input_and_no_keys_for_it() {
+        let moment = Moment { time: 1 };
+        let [mut client, mut server] = [Side::Client, Side::Server].map(|side| {
+            let settings = Settings::new(side, true).with_cipher(Cipher::CipherOnly);
+            Session::with_key(settings, &[1; 32], Ones, Addresses::default()).unwrap()
+        });
+        let nonce = ToSend::Nonce { random: [7; 16] };
+        client.send(nonce, moment).unwrap();
+        server.feed(&client.take_output());
+        server.next(moment).unwrap().expect("a Nonce");
+        server.send(nonce, moment).unwrap();
+        assert!(matches!(server.input.state, State::Ciphered(_)));
+        // Deciphered, this is no packet.
+        server.feed(&[0; 64]);
+        assert!(server.next(moment).is_err() && server.is_closed());
+        assert!(matches!(server.input.state, State::Clear));
+        assert_eq!(server.input.bytes.capacity(), 0);
     }
 }

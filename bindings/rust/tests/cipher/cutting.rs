@@ -29,17 +29,21 @@ fn converse(pair: &mut Pair, next_size: &mut dyn FnMut(usize) -> usize) {
     }
 }
 
-/// The bytes that went over, whole.
-fn whole(cipher: Cipher) -> [Vec<u8>; 2] {
+/// The bytes that went over, whole, and the longest output's size.
+fn whole(cipher: Cipher) -> ([Vec<u8>; 2], usize) {
     let mut pair = Pair::new(cipher, cipher);
-    converse(&mut pair, &mut |rest| rest);
-    pair.wire
+    let mut longest = 0;
+    converse(&mut pair, &mut |output| {
+        longest = longest.max(output);
+        output
+    });
+    (pair.wire, longest)
 }
 
 #[test]
 fn whole_blocks_follow_each_nonce() {
     for cipher in [Cipher::CipherOnly, Cipher::Either] {
-        for wire in whole(cipher) {
+        for wire in whole(cipher).0 {
             assert_eq!((wire.len() - 76) % 16, 0);
         }
     }
@@ -48,13 +52,15 @@ fn whole_blocks_follow_each_nonce() {
 #[test]
 fn every_output_cut_at_every_byte() {
     for cipher in CIPHERS {
-        let expected = whole(cipher);
-        for cut in 1..=112 {
+        let (expected, longest) = whole(cipher);
+        for cut in 1..longest {
             let mut pair = Pair::new(cipher, cipher);
-            let mut is_first = false;
+            let mut is_first = true;
             converse(&mut pair, &mut |rest| {
-                is_first = !is_first;
-                if is_first {
+                // A shorter output goes over whole, and the next one is cut again.
+                let is_cut = is_first && cut < rest;
+                is_first = !is_cut;
+                if is_cut {
                     cut
                 } else {
                     rest

@@ -1,8 +1,8 @@
 //! What a session holds of its secrets, and until when.
 
 use crate::pair::{self, Pair, Plain};
-use crate::{CIPHERS, KEY, SIDES};
-use relay::{Card, Cipher, Session, Settings, Side, ToSend};
+use crate::{CIPHERS, KEY, NOW, SIDES};
+use relay::{Card, Cipher, Fault, Refusal, Session, Settings, Side, ToSend};
 use std::sync::atomic::{AtomicBool, Ordering};
 use std::sync::Arc;
 
@@ -54,6 +54,29 @@ fn key_and_card_go_with_the_second_nonce() {
                     .unwrap();
                 assert_eq!(seen(), expected, "{client_cipher:?}, {server_cipher:?}");
             }
+        }
+    }
+}
+
+/// Or with the refusal that closes the link.
+#[test]
+fn a_session_that_is_closed_lets_go() {
+    for side in SIDES {
+        let (mut session, is_dropped) = watched(side, Cipher::CipherOnly);
+        let refused = |refusal| Err(Fault::Refused(refusal));
+        if side == Side::Client {
+            assert_eq!(session.next(NOW), refused(Refusal::NOT_OUR_TURN));
+            session
+                .send(ToSend::Nonce { random: [7; 16] }, NOW)
+                .unwrap();
+        }
+        assert!(!is_dropped.load(Ordering::Relaxed));
+        session.feed(&[0; 12]);
+        assert_eq!(session.next(NOW), refused(Refusal::LENGTH_UNDER_16));
+        assert!(is_dropped.load(Ordering::Relaxed));
+        for _ in 0..2 {
+            assert_eq!(session.next(NOW), refused(Refusal::LINK_CLOSED));
+            session.feed(&[0; 12]);
         }
     }
 }

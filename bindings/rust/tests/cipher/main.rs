@@ -1,8 +1,9 @@
 //! The cipher of a link: the standard's vectors, two sessions against each other
-//! in every setting and cutting, a peer written by hand for the old versions, and
-//! what becomes of other keys and of changed bytes.
+//! in every setting and cutting, a peer written by hand for the old versions, what
+//! cards are asked for, and what becomes of other keys and of changed bytes.
 
 mod by_hand;
+mod cards;
 mod cutting;
 mod hostile;
 mod letting_go;

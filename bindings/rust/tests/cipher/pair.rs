@@ -75,8 +75,7 @@ pub fn session(side: Side, cipher: Cipher) -> Session {
     session_with(side, cipher, &KEY)
 }
 
-/// The bytes of each packet that a session sends, and its type and body on the
-/// other side.
+/// Type and body of each packet that a session takes.
 pub type Heard = Vec<(u32, Vec<u8>)>;
 
 pub struct Pair {

@@ -5,7 +5,7 @@ use crate::by_hand::ByHand;
 use crate::pair::{self, answer, assert_heard, request, Pair, HANDSHAKE};
 use crate::tables;
 use crate::{CIPHERS, KEY, NOW, SIDES};
-use relay::{Addresses, Card, Cipher, Fault, Refusal, Session, Settings, Side, ToSend};
+use relay::{Addresses, Cipher, Fault, Refusal, Session, Settings, Side, ToSend};
 
 const REFUSED: Fault = Fault::Refused(Refusal::ENCRYPTION);
 
@@ -50,7 +50,8 @@ fn every_version_and_encryption_opens_as_the_tables_say() {
             for version in 0..=2 {
                 for theirs in [0, 1, 2, 3, 255] {
                     let chosen = tables::chosen(side, cipher, theirs);
-                    let talked = talk(side, cipher, version, theirs);
+                    let ours = pair::session(side, cipher);
+                    let talked = talk(ours, side, version, theirs);
                     let what = format!("{side:?}, {cipher:?}, version {version}, {theirs}");
                     match chosen {
                         None => assert_eq!(talked, Err(REFUSED), "{what}"),
@@ -62,10 +63,9 @@ fn every_version_and_encryption_opens_as_the_tables_say() {
     }
 }
 
-/// Our session opens against a peer by hand, which pings; whether through the
-/// cipher.
-fn talk(side: Side, cipher: Cipher, version: u8, theirs: u8) -> Result<bool, Fault> {
-    let mut ours = pair::session(side, cipher);
+/// Our session of this side opens against a peer by hand, which pings; whether
+/// through the cipher.
+pub fn talk(mut ours: Session, side: Side, version: u8, theirs: u8) -> Result<bool, Fault> {
     let mut peer = ByHand::new(side, version);
     let random = pair::random(side);
     if side == Side::Client {
@@ -128,71 +128,4 @@ fn a_session_that_may_cipher_has_a_key_that_a_link_takes() {
             assert_eq!(short.err(), Some(Refusal::UNSUITABLE_KEY));
         }
     }
-}
-
-/// A card that finds every point bad.
-struct Refusing;
-
-impl Card for Refusing {
-    fn point(&mut self) -> [u8; 32] {
-        [1; 32]
-    }
-
-    fn shared(&mut self, _: &[u8; 32]) -> Option<[u8; 32]> {
-        None
-    }
-}
-
-#[test]
-fn a_session_ends_where_its_card_refuses_the_point() {
-    let settings = |side| Settings::new(side, true).with_cipher(Cipher::CipherOnly);
-    let refusing = |side| {
-        let settings = settings(side);
-        Session::with_key(settings, &KEY, Refusing, Addresses::default()).unwrap()
-    };
-    let nonce = ToSend::Nonce { random: [7; 16] };
-    let closed = Fault::Refused(Refusal::LINK_CLOSED);
-
-    let mut server = refusing(Side::Server);
-    let mut client = pair::session(Side::Client, Cipher::CipherOnly);
-    client.send(nonce, NOW).unwrap();
-    server.feed(&client.take_output());
-    assert!(server.next(NOW).is_ok_and(|packet| packet.is_some()));
-    assert_eq!(server.send(nonce, NOW), Err(Fault::Card));
-    assert!(server.is_closed());
-    assert_eq!(server.take_output(), []);
-    assert_eq!(server.send(HANDSHAKE, NOW), Err(closed));
-    assert_eq!(server.next(NOW), Err(closed));
-
-    let mut server = pair::session(Side::Server, Cipher::CipherOnly);
-    let mut client = refusing(Side::Client);
-    client.send(nonce, NOW).unwrap();
-    server.feed(&client.take_output());
-    assert!(server.next(NOW).is_ok_and(|packet| packet.is_some()));
-    server.send(nonce, NOW).unwrap();
-    client.feed(&server.take_output());
-    assert_eq!(client.next(NOW), Err(Fault::Card));
-    assert_eq!(client.send(HANDSHAKE, NOW), Err(closed));
-    assert_eq!((client.take_output(), client.is_closed()), (vec![], true));
-}
-
-/// A server asks its card for a point, and for shared bytes, only if the link is
-/// ciphered; nobody asks for shared bytes under version 2.
-#[test]
-fn the_card_is_asked_only_where_it_is_needed() {
-    struct Never;
-    impl Card for Never {
-        fn point(&mut self) -> [u8; 32] {
-            panic!("a point is asked for")
-        }
-        fn shared(&mut self, _: &[u8; 32]) -> Option<[u8; 32]> {
-            panic!("shared bytes are asked for")
-        }
-    }
-    let settings = Settings::new(Side::Server, true).with_cipher(Cipher::Either);
-    let mut server = Session::with_key(settings, &KEY, Never, Addresses::default()).unwrap();
-    server.feed(&ByHand::new(Side::Server, 2).nonce(0));
-    assert!(server.next(NOW).is_ok_and(|packet| packet.is_some()));
-    server.send(ToSend::Nonce { random: [7; 16] }, NOW).unwrap();
-    assert!(!server.is_ciphered());
 }

@@ -234,6 +234,25 @@ fn a_key_file_that_others_can_read_is_told_with_its_name() {
 }
 
 #[test]
+fn no_option_comes_twice() {
+    for (options, twice) in [
+        ("--retry-ms 1 --retry-ms 1", "--retry-ms"),
+        ("--ping-ms 1 --retry-ms 1 --ping-ms 2", "--ping-ms"),
+        ("--opening-ms 1 --opening-ms 1", "--opening-ms"),
+        ("--padded-fronts --padded-fronts", "--padded-fronts"),
+        (
+            "--fronts-cipher clear --fronts-cipher only",
+            "--fronts-cipher",
+        ),
+        ("--fronts-key a --fronts-key a", "--fronts-key"),
+        ("--card stand-in --card stand-in", "--card"),
+    ] {
+        let error = with_options(options, "127.0.0.1:2").err();
+        assert_eq!(error, Some(usage(format!("{twice} twice"))));
+    }
+}
+
+#[test]
 fn cards_by_their_words() {
     for word in ["", "none", "X25519"] {
         let error = with_options(&format!("--card {word}"), "127.0.0.1:2").err();

@@ -1,6 +1,7 @@
 //! Tells the core what happened and which time is over, and does what it wants.
 
 use super::connection::Connection;
+use super::printer::Printer;
 use super::stream::{spawn_reader, spawn_writer, Owner};
 use super::{Input, Options};
 use crate::card::CardKind;
@@ -23,6 +24,7 @@ pub struct Server {
     inputs: SyncSender<Input>,
     next_serial: u64,
     random: File,
+    warnings: Printer,
     start: u32,
     keep_alive: Duration,
     next_tick: Instant,
@@ -40,6 +42,7 @@ impl Server {
             inputs,
             next_serial: 0,
             random: File::open("/dev/urandom")?,
+            warnings: Printer::new(io::stderr())?,
             start: clock(),
             keep_alive: options.keep_alive,
             next_tick: Instant::now() + options.keep_alive,
@@ -196,9 +199,8 @@ impl Server {
                     }
                 }
                 Action::Close(peer) => self.drop_connection(peer),
-                // The relay goes on if nobody reads that.
                 Action::Warn(peer, warning) => {
-                    drop(writeln!(io::stderr(), "relay: {peer}: {warning}"))
+                    self.warnings.print(format!("relay: {peer}: {warning}"));
                 }
             }
         }
@@ -219,7 +221,8 @@ impl Server {
 fn net_pid(address: SocketAddr, pid: u16, start: u32) -> NetPid {
     let ip = match address.ip() {
         IpAddr::V4(ip) => u32::from(ip),
-        IpAddr::V6(_) => 0,
+        // A listener on [::] sees IPv4 so.
+        IpAddr::V6(ip) => ip.to_ipv4_mapped().map_or(0, u32::from),
     };
     NetPid {
         ip,
@@ -233,4 +236,19 @@ fn net_pid(address: SocketAddr, pid: u16, start: u32) -> NetPid {
 fn clock() -> u32 {
     let since = SystemTime::now().duration_since(UNIX_EPOCH);
     since.map_or(0, |duration| duration.as_secs() as u32)
+}
+
+#[cfg(test)]
+mod tests {
+    use super::*;
+
+    #[test]
+    fn an_ipv4_address_is_the_same_in_both_forms() {
+        let ip = |address: &str| net_pid(address.parse().unwrap(), 0, 0).ip;
+        assert_eq!(ip("1.2.3.4:5"), 0x0102_0304);
+        assert_eq!(ip("[::ffff:1.2.3.4]:5"), 0x0102_0304);
+        for other in ["[::1]:5", "[::1.2.3.4]:5", "[2001:db8::ffff:102:304]:5"] {
+            assert_eq!(ip(other), 0, "{other}");
+        }
+    }
 }

@@ -1,7 +1,7 @@
 //! Links that go through the cipher: they open as their settings say, and requests
 //! and answers go over them as over any other.
 
-use crate::other_end::{OtherEnd, Secrets};
+use crate::other_end::{OtherEnd, Secrets, CIPHERS, KEY};
 use crate::world::{self, World};
 use crate::{answer, answered, ask, ask_with, code};
 use reference::message::Side;
@@ -10,11 +10,6 @@ use relay::{Cipher, Settings};
 use relay_example::event::{Event, Peer};
 use relay_example::settings::{self, LinkSettings};
 use std::sync::Arc;
-
-pub const CIPHERS: [Cipher; 3] = [Cipher::ClearOnly, Cipher::CipherOnly, Cipher::Either];
-
-/// Its first four bytes are the KeyID.
-pub const KEY: [u8; 40] = *b"KeyID and as many bytes more as it takes";
 
 pub const PUBLISHER: u8 = 2;
 pub const PEER: Peer = Peer::Publisher(PUBLISHER);
@@ -82,7 +77,7 @@ fn a_publisher_is_served_by_or_as_good_as_not_there() {
                 let counts = world.core.counts();
                 let not_agreed = u64::from(!fits);
                 assert_eq!(
-                    (counts.dropped, counts.not_agreed),
+                    (counts.dropped, counts.not_agreed()),
                     (not_agreed, not_agreed)
                 );
                 if !fits {
@@ -118,7 +113,7 @@ fn a_front_end_is_served_by_or_as_good_as_not_there() {
                     Cipher::Either => false,
                 };
                 assert_eq!(opened, !refused, "{ours:?}, {version}, {offer}");
-                assert_eq!(world.core.counts().not_agreed, u64::from(refused));
+                assert_eq!(world.core.counts().not_agreed(), u64::from(refused));
                 if opened {
                     world.front_says(3, ask(1, PUBLISHER.into()));
                     world.publisher_says(PUBLISHER, answer(1, b"an answer"));

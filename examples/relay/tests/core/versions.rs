@@ -28,7 +28,7 @@ fn a_publisher_below_the_lowest_version_is_closed_before_the_handshake() {
         assert!(!opened);
         assert_eq!(world.closed, [PEER]);
         let counts = world.core.counts();
-        assert_eq!((counts.dropped, counts.too_old), (1, 1));
+        assert_eq!((counts.dropped, counts.too_old()), (1, 1));
         // It is as good as not there, and the others are unharmed.
         world.front_says(0, ask(1, PUBLISHER.into()));
         assert_eq!(code(&world.front_got(0)[0], 1), 20);
@@ -48,7 +48,7 @@ fn a_publisher_from_the_lowest_version_up_serves() {
         assert!(opened);
         assert_eq!(world.closed, []);
         let counts = world.core.counts();
-        assert_eq!((counts.dropped, counts.too_old), (0, 0));
+        assert_eq!((counts.dropped, counts.too_old()), (0, 0));
         world.front_says(0, ask(1, PUBLISHER.into()));
         world.publisher_says(PUBLISHER, answer(1, b"an answer"));
         assert_eq!(world.front_got(0), [answered(1, b"an answer")]);

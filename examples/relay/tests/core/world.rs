@@ -40,7 +40,7 @@ pub fn opening() -> Opening {
     }
 }
 
-fn opening_with_card() -> Opening {
+pub fn opening_with_card() -> Opening {
     Opening {
         card: Some(card()),
         ..opening()

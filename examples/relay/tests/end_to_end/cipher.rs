@@ -1,9 +1,9 @@
 //! Ciphered links step by step: every setting and version over sockets, ends with
 //! another key, and two relays in a chain.
 
-use crate::other_end::{OtherEnd, Secrets};
+use crate::other_end::{OtherEnd, Secrets, KEY};
 use crate::process::RelayProcess;
-use crate::profile::{self, Profile, KEY};
+use crate::profile::{self, Profile};
 use crate::socket::Socket;
 use crate::steps;
 use reference::generator::Generator;
@@ -16,14 +16,21 @@ use std::time::Duration;
 const OPTIONS: &str = "--retry-ms 50 --ping-ms 60000";
 const PATIENCE: Duration = Duration::from_secs(10);
 
-/// A relay whose links to front ends and to the first publishers are set so.
-fn relay(fronts: Profile, publishers: &[(&TcpListener, Profile)]) -> RelayProcess {
+/// The line of a relay whose links to front ends and to the first publishers are
+/// set so.
+fn line(fronts: Profile, publishers: &[(&TcpListener, Profile)]) -> (String, Vec<String>) {
     let listeners: Vec<_> = publishers.iter().map(|(listener, _)| *listener).collect();
     let mut words = steps::words(&listeners);
     for (word, (_, profile)) in words.iter_mut().zip(publishers) {
         *word += &profile.word();
     }
     let options = format!("{OPTIONS} {} {}", profile::card(), fronts.options());
+    (options, words)
+}
+
+/// A relay with such a line.
+fn relay(fronts: Profile, publishers: &[(&TcpListener, Profile)]) -> RelayProcess {
+    let (options, words) = line(fronts, publishers);
     RelayProcess::start(&options, &words)
 }
 
@@ -167,6 +174,27 @@ fn front_ends_with_another_key_get_nothing() {
     assert!(counted(&relay, "not_agreed", 4));
     // And one with the key is served.
     let secrets = Secrets::new(Cipher::Either, &KEY);
+    let mut front = connect(&relay, end(Side::Client, 2, secrets)).expect("an open link");
+    serve(&mut front, &mut publisher, 0);
+}
+
+/// Their lines have more than 64 KiB, which is what a pipe takes.
+const WARNINGS: u64 = 600;
+
+#[test]
+fn warnings_that_nobody_reads_do_not_stop_the_relay() {
+    let listener = steps::listener();
+    let cipher = Profile::Cipher(Cipher::CipherOnly);
+    let (options, words) = line(cipher, &[(&listener, Profile::Plain)]);
+    let relay = RelayProcess::start_unread(&options, &words);
+    let mut publisher = steps::publisher(&listener);
+    let [_, other_rest] = other_keys();
+    for _ in 0..WARNINGS {
+        let secrets = Secrets::new(Cipher::CipherOnly, &other_rest);
+        assert!(connect(&relay, end(Side::Client, 0, secrets)).is_none());
+    }
+    assert!(counted(&relay, "other_keys", WARNINGS));
+    let secrets = Secrets::new(Cipher::CipherOnly, &KEY);
     let mut front = connect(&relay, end(Side::Client, 2, secrets)).expect("an open link");
     serve(&mut front, &mut publisher, 0);
 }

@@ -31,8 +31,9 @@ mod tally;
 mod unreadable;
 mod unreadable_messages;
 
+use other_end::CIPHERS;
 use process::RelayProcess;
-use profile::{Profile, CIPHERS};
+use profile::Profile;
 use publisher::Publisher;
 use relay::Cipher;
 use std::sync::atomic::{AtomicBool, Ordering};

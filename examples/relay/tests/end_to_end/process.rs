@@ -36,18 +36,19 @@ impl RelayProcess {
     /// With these options, and eight words for the publishers. If its test still
     /// runs after the hard limit, this process ends, and all relays with it.
     pub fn start(options: &str, publishers: &[String]) -> RelayProcess {
-        let mut child = Command::new(env!("CARGO_BIN_EXE_relay"))
-            .args(options.split_whitespace())
-            .arg("127.0.0.1:0")
-            .args(publishers)
-            .stdin(Stdio::piped())
-            .stdout(Stdio::piped())
-            .stderr(Stdio::piped())
-            .spawn()
-            .expect("the relay's program");
+        let mut child = spawn(options, publishers);
+        let said = keep(child.stderr.take().expect("its errors"));
+        RelayProcess::of(child, said)
+    }
+
+    /// The same, and nobody reads its standard error.
+    pub fn start_unread(options: &str, publishers: &[String]) -> RelayProcess {
+        RelayProcess::of(spawn(options, publishers), Arc::default())
+    }
+
+    fn of(mut child: Child, said: Arc<Mutex<Vec<String>>>) -> RelayProcess {
         let stdin = child.stdin.take().expect("its input");
         let mut stdout = BufReader::new(child.stdout.take().expect("its output"));
-        let said = keep(child.stderr.take().expect("its errors"));
         let child = Arc::new(Mutex::new(child));
         RELAYS.lock().expect("the relays").push(Arc::clone(&child));
         let in_use = limit_use();
@@ -122,6 +123,19 @@ impl Drop for RelayProcess {
     fn drop(&mut self) {
         end(&self.child);
     }
+}
+
+/// All three streams are pipes.
+fn spawn(options: &str, publishers: &[String]) -> Child {
+    Command::new(env!("CARGO_BIN_EXE_relay"))
+        .args(options.split_whitespace())
+        .arg("127.0.0.1:0")
+        .args(publishers)
+        .stdin(Stdio::piped())
+        .stdout(Stdio::piped())
+        .stderr(Stdio::piped())
+        .spawn()
+        .expect("the relay's program")
 }
 
 /// The use ends with what is handed back; if that takes too long, all ends.

@@ -1,7 +1,7 @@
 //! How the links of a test are: plain, padded, or through the cipher as their ends
 //! agree.
 
-use crate::other_end::{OtherEnd, Secrets, CARD};
+use crate::other_end::{OtherEnd, Secrets, CARD, CIPHERS, KEY};
 use reference::generator::Generator;
 use reference::message::Side;
 use relay::Cipher;
@@ -9,11 +9,6 @@ use std::fs::{self, Permissions};
 use std::os::unix::fs::PermissionsExt;
 use std::path::Path;
 use std::sync::OnceLock;
-
-/// Its first four bytes are the KeyID.
-pub const KEY: [u8; 40] = *b"KeyID and as many bytes more as it takes";
-
-pub const CIPHERS: [Cipher; 3] = [Cipher::ClearOnly, Cipher::CipherOnly, Cipher::Either];
 
 #[derive(Clone, Copy, Debug, PartialEq, Eq)]
 pub enum Profile {

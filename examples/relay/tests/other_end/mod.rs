@@ -10,7 +10,7 @@ mod lent;
 mod tunnel;
 
 pub use lent::*;
-pub use tunnel::Secrets;
+pub use tunnel::{Secrets, CIPHERS, KEY};
 
 use reference::link::packet::{whole, HANDSHAKE, NONCE, PING, PONG};
 use reference::link::{Link, Outgoing, Received, Settings};

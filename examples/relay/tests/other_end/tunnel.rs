@@ -10,6 +10,11 @@ use reference::message::Side;
 use relay::checksum::crc32;
 use relay::{Address, Addresses, Card, Cipher};
 
+pub const CIPHERS: [Cipher; 3] = [Cipher::ClearOnly, Cipher::CipherOnly, Cipher::Either];
+
+/// The key of the relays and of the other ends; its first four bytes are the KeyID.
+pub const KEY: [u8; 40] = *b"KeyID and as many bytes more as it takes";
+
 /// How an end that may cipher is set.
 #[derive(Clone)]
 pub struct Secrets {
