@@ -2,3 +2,5 @@
 pub mod Xor
 pub mod Words
 pub mod Quads
+pub mod Computed
+pub mod Vectors

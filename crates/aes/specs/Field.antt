@@ -30,7 +30,7 @@ unfoldable pub powers : ℕ → ℕ → ℕ
 powers zero a = 1
 powers (suc n) a = mul (mul a a) (powers n (mul a a))
 
--- 4.2: the multiplicative inverse, which is a^254 (`inverse-is`, cipher_laws); it takes 0 to 0, as 5.1.1 wants
+-- 4.2: the multiplicative inverse, which is a^254 (`inverse-is`, aes_bytes); it takes 0 to 0, as 5.1.1 wants
 unfoldable pub inverse : ℕ → ℕ
 inverse a = powers 7 a
 

@@ -1,8 +1,9 @@
 // AES-256 (FIPS 197) in CBC mode (NIST SP 800-38A): what it is. No function is here.
 //
 // specs/ has the definitions, each under the section of the standard that it is read beside: Field and Aes, then Back
-// (the equivalent inverse cipher), Cbc (the mode and the calls), and the values that the standard prints. The calls
-// are in `aes_keys`, `aes_back_keys`, `aes_encipher` and `aes_decipher`, theorems on them in `cipher_laws`.
+// (the equivalent inverse cipher) and Cbc (the mode and the calls). proofs/Vectors has the values that the standard
+// prints. The calls are in `aes_keys`, `aes_back_keys`, `aes_encipher` and `aes_decipher`, theorems on them in
+// `aes_bytes` and `cipher_laws`.
 
 // Whether a call was done, or a refusal's number: then buffer and vector stay.
 pub enum Answer {

@@ -2,7 +2,7 @@
 --
 -- The numbers start at 256 so that the compiler does not take them for signed bytes and turn each index.
 use mathlib.Core.Path.{_≡_, sym, ap, _∙_, subst}
-use mathlib.Core.Bool.{Bool, true, false, _&&_}
+use mathlib.Core.Bool.{Bool, _&&_}
 use mathlib.Core.List.{List, [], _∷_}
 use Prim.Native.Nat.{ℕ, zero, suc, _+_, _-_, _/_, _%_, _≤_, _<_}
 use native.Mathlib.Omega.{arith}
@@ -10,6 +10,7 @@ use lib.Dec.{T, eqb, eqb→eq}
 use Rattle.aes.specs.Field.{mul, sbox, unsbox}
 use Rattle.aes.specs.Words.{bytes4, products, unproducts}
 use Rattle.aes.proofs.Words.{list4}
+use Rattle.aes.proofs.Computed.{and-left, and-right}
 use Rattle.aes_arms.specs.Twice.{Twice}
 
 -- ---- the last arm: y is none of the n numbers from 256 on
@@ -41,14 +42,6 @@ module _ (k x : ℕ) (e : x + 256 ≡ k) where
   unsub-arm {r} t = eqb→eq r (unsbox (k - 256)) t ∙ ap unsbox (sym place)
 
 -- ---- words, each twice in a number
-and-left : (a b : Bool) → T (a && b) → T a
-and-left true b t = tt
-and-left false b t = t
-
-and-right : (a b : Bool) → T (a && b) → T b
-and-right true b t = t
-and-right false b t = absurd t
-
 -- r against four bytes
 abbrev test : ℕ → ℕ → ℕ → ℕ → ℕ → Bool
 test r a b c d =

@@ -7,7 +7,7 @@ use aes_decipher::decipher;
 use aes_encipher::encipher;
 use aes_keys::round_keys;
 use libc::STDIN_FILENO;
-use store::copy;
+use store_bytes::copy;
 use wire::part;
 use wire::u32_at;
 

@@ -1,7 +1,7 @@
 // Key expansion (FIPS 197, 5.2).
 use super::substitution::sub_word;
-use store::copy;
 use store::put_u32;
+use store_bytes::copy;
 use wire::u32_at;
 ghost use mathlib.Core.Path.{_≡_};
 ghost use mathlib.Core.List.{[], _∷_};

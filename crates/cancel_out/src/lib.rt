@@ -4,7 +4,7 @@
 // writers are in the crates `invoke_out` and `result_out`, and reading in `message`.
 use body::Written;
 use body::size_or_refusal;
-use store::put_i64;
+use store_signed::put_i64;
 ghost use mathlib.Core.Path.{_≡_};
 ghost use lib.ListN.{length};
 ghost use Rattle.body.specs.Written.{bytesAfter};

@@ -4,26 +4,22 @@ use mathlib.Core.Path.{_≡_, refl, ap, subst, _∙_}
 use mathlib.Core.Bool.{Bool, true, false, _&&_}
 use mathlib.Core.List.{List}
 use Prim.Native.Nat.{ℕ}
-use lib.ListN.{length, replicate}
+use lib.ListN.{replicate}
 use Rattle.wire.specs.Bytes.{within}
 use Rattle.wire.specs.Choice.{pick}
 use Rattle.link_state.specs.declared.Link.{Link}
 use Rattle.link_state.specs.declared.Moment.{Moment}
 use Rattle.link_state.specs.SetUp.{freshOf}
-use Rattle.packet.specs.Body.{bodyOf}
-use Rattle.link.specs.Receive.{receiveOf}
-use Rattle.link.specs.declared.Received.{Received}
-use Rattle.nonce_out.specs.Nonce.{versionOf, nonceStep, nonceBuffer}
+use Rattle.nonce_out.specs.Nonce.{versionOf}
 use Rattle.nonce_in.specs.Fields.{pointPlace, nonceOf}
 use Rattle.nonce_in.specs.declared.NonceRead.{NonceRead}
 use Rattle.nonce_in.specs.declared.NonceRead.the-variants.{Fields}
-use Rattle.key_message.specs.declared.End.{End}
-use Rattle.key_message.specs.declared.Ends.{Ends}
-use Rattle.link_keys.specs.Keys.{derived}
+use Rattle.key_front.specs.declared.End.{End}
 use Rattle.pair.specs.Opens.{Choices, madeOf, bothOf, Meet, Caller, Able}
 use Rattle.pair.proofs.Opening.{got1}
 use Rattle.pair.proofs.NonceBack.{Tells, server-reads, client-reads}
-use Rattle.cipher_choice.specs.Derives.{Address, ownEnd, endBy, readEnd, versionBy, pointBy}
+use Rattle.cipher_choice.specs.Derives.{Address, endBy, readEnd, versionBy, pointBy}
+use Rattle.cipher_choice.specs.Derives.{Nonces, noncesOf, Known, derivedBy, Addresses, clientKnows, serverKnows}
 
 -- what a body that tells so is read as
 module _ (body : List ℕ) (time : ℕ) (random point : List ℕ) (t : Tells body time random point) where
@@ -41,24 +37,10 @@ module _ (body : List ℕ) (time : ℕ) (random point : List ℕ) (t : Tells bod
 
 -- two fresh links that meet, both with the cipher
 module _ (x y : Choices) (meet : Meet x y) (both : bothOf x y ≡ true) (c s : Caller) (b1 b2 b3 b4 : List ℕ)
-    (m3 m4 : Moment) (g : Able c s b1 b2 b3 b4) (at-client at-server : Address) where
-  -- the Nonces, and the bodies that the receive calls named
-  abbrev first-sent : List ℕ
-  first-sent = nonceBuffer (madeOf false x) (c .drawn) (c .told) b1
-
-  abbrev server-got : Received
-  server-got = receiveOf (madeOf true y) first-sent (s .heard)
-
-  abbrev second-sent : List ℕ
-  second-sent = nonceBuffer (server-got .link) (s .drawn) (s .told) b2
-
-  abbrev at-server-body : List ℕ
-  at-server-body = bodyOf first-sent (server-got .answer)
-
-  abbrev at-client-body : List ℕ
-  at-client-body =
-      bodyOf second-sent
-      (receiveOf (nonceStep (madeOf false x) (c .drawn) (c .told) (length b1) .link) second-sent (c .heard) .answer)
+    (m3 m4 : Moment) (g : Able c s b1 b2 b3 b4) where
+  -- their Nonces
+  abbrev nonces : Nonces
+  nonces = noncesOf (madeOf false x) (madeOf true y) c s b1 b2
 
   has-c : x .cipher ≡ true
   has-c = go (x .cipher) (y .cipher) both
@@ -67,60 +49,53 @@ module _ (x y : Choices) (meet : Meet x y) (both : bothOf x y ≡ true) (c s : C
       go true b e = refl
       go false b e = e
 
-  client-told : Tells at-server-body (c .told .time) (c .drawn .random) (c .drawn .point)
+  client-told : Tells (nonces .from-client) (c .told .time) (c .drawn .random) (c .drawn .point)
   client-told =
-      subst (λ (p : List ℕ). Tells at-server-body (c .told .time) (c .drawn .random) p)
+      subst (λ (p : List ℕ). Tells (nonces .from-client) (c .told .time) (c .drawn .random) p)
       (ap (λ (b : Bool). pick b (c .drawn .point) (replicate 32 0)) has-c)
       (server-reads x y meet c s b1 b2 b3 b4 m3 m4 g)
 
-  server-told : Tells at-client-body (s .told .time) (s .drawn .random) (s .drawn .point)
+  server-told : Tells (nonces .from-server) (s .told .time) (s .drawn .random) (s .drawn .point)
   server-told =
-      subst (λ (p : List ℕ). Tells at-client-body (s .told .time) (s .drawn .random) p)
+      subst (λ (p : List ℕ). Tells (nonces .from-server) (s .told .time) (s .drawn .random) p)
       (ap (λ (b : Bool). pick b (s .drawn .point) (replicate 32 0)) both)
       (client-reads x y meet c s b1 b2 b3 b4 m3 m4 g)
 
-  -- what the client derives from, and the server
-  abbrev client-ends : Ends
-  client-ends = record { client = ownEnd (c .drawn) (c .told) at-client; server = readEnd at-client-body at-server }
-
-  abbrev server-ends : Ends
-  server-ends = record { client = readEnd at-server-body at-client; server = ownEnd (s .drawn) (s .told) at-server }
-
-  same-ends : client-ends ≡ server-ends
-  same-ends =
-      rw (
-        reads-end at-client-body (s .told .time) (s .drawn .random) (s .drawn .point) server-told at-server,
-        reads-end at-server-body (c .told .time) (c .drawn .random) (c .drawn .point) client-told at-client,
-      )
-
   -- EACH CARD GETS THE OTHER'S POINT
-  pub points : (pointBy (nonceOf at-server-body) at-server-body ≡ c .drawn .point)
-      × (pointBy (nonceOf at-client-body) at-client-body ≡ s .drawn .point)
+  pub points : (pointBy (nonceOf (nonces .from-client)) (nonces .from-client) ≡ c .drawn .point)
+      × (pointBy (nonceOf (nonces .from-server)) (nonces .from-server) ≡ s .drawn .point)
   points = (
-    reads-point at-server-body (c .told .time) (c .drawn .random) (c .drawn .point) client-told,
-    reads-point at-client-body (s .told .time) (s .drawn .random) (s .drawn .point) server-told,
+    reads-point (nonces .from-client) (c .told .time) (c .drawn .random) (c .drawn .point) client-told,
+    reads-point (nonces .from-server) (s .told .time) (s .drawn .random) (s .drawn .point) server-told,
   )
 
   -- both speak the version of the server's Nonce
-  server-version : versionOf (server-got .link) ≡ 2
+  pub both-version : (versionBy (nonceOf (nonces .from-server)) ≡ 2) × (versionOf (nonces .between) ≡ 2)
   unfolding versionOf freshOf
-  server-version = rw (got1 x y meet c s b1 b2 b3 b4 m3 m4 g)
+  both-version = (
+    reads-version (nonces .from-server) (s .told .time) (s .drawn .random) (s .drawn .point) server-told,
+    rw (got1 x y meet c s b1 b2 b3 b4 m3 m4 g),
+  )
 
-  -- THE SAME KEYS: with the same key, and cards that give both the same shared bytes for each other's points, what the
-  -- client derives for a direction is what the server derives for it: answer, AES key and vector
-  pub same-keys : (client-card server-card : List ℕ → List ℕ)
-      → client-card (s .drawn .point) ≡ server-card (c .drawn .point)
-      → (from-server : Bool) (key b : List ℕ)
-      → derived (versionBy (nonceOf at-client-body)) from-server client-ends key
-      (client-card (pointBy (nonceOf at-client-body) at-client-body)) b
-      ≡ derived (versionOf (server-got .link)) from-server server-ends key
-      (server-card (pointBy (nonceOf at-server-body) at-server-body)) b
-  same-keys client-card server-card agreed from-server key b =
-      rw (
-        reads-version at-client-body (s .told .time) (s .drawn .random) (s .drawn .point) server-told,
-        server-version,
-        same-ends,
-        points .0,
-        points .1,
-        agreed,
-      )
+  module _ (a : Addresses) (client-card server-card : List ℕ → List ℕ)
+      (agreed : client-card (s .drawn .point) ≡ server-card (c .drawn .point)) where
+    -- THE SAME KNOWLEDGE: with cards that give both the same shared bytes for each other's points, what the client
+    -- gives to the derivation is what the server gives
+    pub same-known : clientKnows c nonces a client-card ≡ serverKnows s nonces a server-card
+    same-known =
+        rw (
+          both-version .0,
+          both-version .1,
+          reads-end (nonces .from-server) (s .told .time) (s .drawn .random) (s .drawn .point) server-told (a .server),
+          reads-end (nonces .from-client) (c .told .time) (c .drawn .random) (c .drawn .point) client-told (a .client),
+          points .0,
+          points .1,
+          agreed,
+        )
+
+    -- THE SAME KEYS: so with the same key what the client derives for a direction is what the server derives for it:
+    -- answer, AES key and vector
+    pub same-keys : (from-server : Bool) (key b : List ℕ)
+        → derivedBy (clientKnows c nonces a client-card) from-server key b
+        ≡ derivedBy (serverKnows s nonces a server-card) from-server key b
+    same-keys from-server key b = ap (λ (k : Known). derivedBy k from-server key b) same-known

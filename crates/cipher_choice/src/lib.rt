@@ -1,5 +1,6 @@
 // Theorems about ciphered links, and no code: the cipher is never chosen unasked and never left out where it alone is
-// asked for, two links of which the tables say so get 9, and two that choose the cipher derive the same keys.
+// asked for, two links of which the tables say so get 9, and two that choose the cipher derive the same keys, with the
+// same key and cards that agree.
 //
 // They speak of the definitions that the contracts of the crates below equate every call with, so they hold of the
 // code, after every list of calls (crate link_calls). The theorems to read are `unasked` and `never-clear`

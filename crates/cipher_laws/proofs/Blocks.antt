@@ -13,26 +13,6 @@ use Rattle.cipher_laws.specs.Sizes.{Bytes, Sized}
 use Rattle.aes.specs.Aes.{subBytes, placed, shiftRows, cell, columns, mixColumns, add, roundKey, rounds}
 use Rattle.aes.specs.Aes.{unsubBytes, unshiftRows, unmixColumns}
 
--- ---- a test of every number from i on, n of them
-abbrev pub all : (ℕ → Bool) → ℕ → ℕ → Bool
-all f i zero = true
-all f i (suc n) = f i && all f (suc i) n
-
-and-left : (a b : Bool) → T (a && b) → T a
-and-left true b t = tt
-and-left false b t = t
-
-and-right : (a b : Bool) → T (a && b) → T b
-and-right true b t = t
-and-right false b t = absurd t
-
-pub all-at : (f : ℕ → Bool) (n i : ℕ) → T (all f i n) → (k : ℕ) → k < n → T (f (i + k))
-all-at f zero i t k h = absurd (not-suc-le-zero h)
-all-at f (suc n) i t zero h = subst (λ (m : ℕ). T (f m)) (sym (add-zero i)) (and-left (f i) (all f (suc i) n) t)
-all-at f (suc n) i t (suc k) h =
-    subst (λ (m : ℕ). T (f m)) (suc-add i k ∙ sym (add-suc i k))
-    (all-at f n (suc i) (and-right (f i) (all f (suc i) n) t) k (le-of-suc-le-suc h))
-
 -- ---- bytes
 xor-low8 : {a b : ℕ} → a < 256 → b < 256 → bitXor a b < 256
 xor-low8 {a} {b} p q = xor-lt 8 a b p q

@@ -7,6 +7,7 @@ use lib.Bits.{bitXor, differ, xor-comm, xor-zero-r, xor-self, xor-block, xor-shr
 use Rattle.aes.specs.Field.{when, xtime, times, mul}
 use Rattle.aes.specs.Aes.{add, cell, columns}
 use Rattle.aes.proofs.Xor.{xor-assoc, xor-swap, xor-low}
+use Rattle.aes_bytes.proofs.Bytes.{four}
 
 two-pos : zero < 2
 two-pos = zero-lt-suc 1
@@ -48,10 +49,6 @@ times-xor (suc n) a b p =
 pub mul-xor : (a b p : ℕ) → mul (bitXor a b) p ≡ bitXor (mul a p) (mul b p)
 unfolding mul
 mul-xor a b p = times-xor 8 a b p
-
--- four terms
-abbrev pub four : ℕ → ℕ → ℕ → ℕ → ℕ
-four x y z w = bitXor x (bitXor y (bitXor z w))
 
 pub four-eq : {x y z w x′ y′ z′ w′ : ℕ} → x ≡ x′ → y ≡ y′ → z ≡ z′ → w ≡ w′ → four x y z w ≡ four x′ y′ z′ w′
 four-eq p q r s = ap₂ bitXor p (ap₂ bitXor q (ap₂ bitXor r s))

@@ -2,38 +2,22 @@
 use mathlib.Core.Path.{_≡_, refl, sym, ap, ap₂, _∙_}
 use mathlib.Core.List.{List, [], _∷_, _++_}
 use Prim.Native.Nat.{ℕ, zero, suc, _+_, _≤_, _<_}
-use native.Mathlib.Nat.{zero-add}
 use native.Mathlib.Omega.{arith}
-use lib.Dec.{T, eqb, eqb→eq, lit≤}
+use lib.Dec.{lit≤}
 use lib.ListN.{length}
-use Rattle.wire.specs.Choice.{pick}
 use lib.Bits.{bitXor, xor-self, xor-zero-r}
-use Rattle.aes.specs.Field.{xtime, times, mul, powers, inverse, turn, affine, unaffine, sbox, unsbox}
+use Rattle.aes.specs.Field.{mul}
 use Rattle.aes.specs.Aes.{add, subBytes, unsubBytes, placed, shiftRows, unshiftRows, cell}
 use Rattle.aes.specs.Aes.{columns, mixColumns, unmixColumns, roundKey, rounds, cipher, unrounds, decipher}
 use Rattle.aes.proofs.Xor.{xor-assoc}
-use Rattle.cipher_laws.proofs.Linear.{four, four-eq, four-turn, cell-cell}
+use Rattle.aes_bytes.proofs.Bytes.{unsbox-sbox, same, one, two, three}
+use Rattle.cipher_laws.proofs.Linear.{four-eq, four-turn, cell-cell}
 use Rattle.cipher_laws.specs.Sizes.{Bytes, Sized}
-use Rattle.cipher_laws.proofs.Blocks.{all, all-at, Block, block, block-add, block-sub}
+use Rattle.cipher_laws.proofs.Blocks.{Block, block, block-add, block-sub}
 use Rattle.cipher_laws.proofs.Blocks.{block-shift, block-mix, block-key}
 use Rattle.cipher_laws.proofs.Blocks.{block-rounds, bytes-in, same-long}
 
--- a test at each byte
-pub byte-test : (f g : ℕ → ℕ) → T (all (λ b. eqb (f b) (g b)) 0 256) → (b : ℕ) → b < 256 → f b ≡ g b
-byte-test f g t b h =
-    ap f (sym (zero-add b)) ∙ eqb→eq (f (0 + b)) (g (0 + b)) (all-at (λ b. eqb (f b) (g b)) 256 0 t b h)
-    ∙ ap g (zero-add b)
-
--- 4.2: a byte times its inverse is 1; 0, which has none, stays 0
-pub inverse-is : (b : ℕ) → b < 256 → mul b (inverse b) ≡ pick (eqb b 0) 0 1
-unfolding inverse powers mul times xtime
-inverse-is = byte-test (λ b. mul b (inverse b)) (λ b. pick (eqb b 0) 0 1) tt
-
 -- ---- SubBytes
-pub unsbox-sbox : (b : ℕ) → b < 256 → unsbox (sbox b) ≡ b
-unfolding unsbox unaffine sbox affine turn inverse powers mul times xtime
-unsbox-sbox = byte-test (λ b. unsbox (sbox b)) (λ b. b) tt
-
 pub undo-sub : (s : List ℕ) → Bytes s → unsubBytes (subBytes s) ≡ s
 unfolding subBytes unsubBytes
 undo-sub [] h = refl
@@ -54,23 +38,7 @@ undo-add [] k e = refl
 undo-add (a ∷ s) [] e = absurd (omega arith)
 undo-add (a ∷ s) (b ∷ k) e = ap₂ _∷_ (xor-twice a b) (undo-add s k (omega arith))
 
--- ---- MixColumns: what a byte of the column comes to after both matrices, by its distance
-same : (a : ℕ) → a < 256 → four (mul (mul a 2) 14) (mul (mul a 1) 11) (mul (mul a 1) 13) (mul (mul a 3) 9) ≡ a
-unfolding mul times xtime
-same = byte-test (λ a. four (mul (mul a 2) 14) (mul (mul a 1) 11) (mul (mul a 1) 13) (mul (mul a 3) 9)) (λ a. a) tt
-
-one : (a : ℕ) → a < 256 → four (mul (mul a 3) 14) (mul (mul a 2) 11) (mul (mul a 1) 13) (mul (mul a 1) 9) ≡ 0
-unfolding mul times xtime
-one = byte-test (λ a. four (mul (mul a 3) 14) (mul (mul a 2) 11) (mul (mul a 1) 13) (mul (mul a 1) 9)) (λ a. 0) tt
-
-two : (a : ℕ) → a < 256 → four (mul (mul a 1) 14) (mul (mul a 3) 11) (mul (mul a 2) 13) (mul (mul a 1) 9) ≡ 0
-unfolding mul times xtime
-two = byte-test (λ a. four (mul (mul a 1) 14) (mul (mul a 3) 11) (mul (mul a 2) 13) (mul (mul a 1) 9)) (λ a. 0) tt
-
-three : (a : ℕ) → a < 256 → four (mul (mul a 1) 14) (mul (mul a 1) 11) (mul (mul a 3) 13) (mul (mul a 2) 9) ≡ 0
-unfolding mul times xtime
-three = byte-test (λ a. four (mul (mul a 1) 14) (mul (mul a 1) 11) (mul (mul a 3) 13) (mul (mul a 2) 9)) (λ a. 0) tt
-
+-- ---- MixColumns
 module _ (a b c d : ℕ) (ha : a < 256) (hb : b < 256) (hc : c < 256) (hd : d < 256) where
   row0 : cell 14 11 13 9 (cell 2 3 1 1 a b c d) (cell 1 2 3 1 a b c d) (cell 1 1 2 3 a b c d) (cell 3 1 1 2 a b c d)
       ≡ a

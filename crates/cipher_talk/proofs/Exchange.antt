@@ -332,7 +332,7 @@ module _ (x y : Choices) (meet : Meet x y) (both : bothOf x y ≡ true) (c s : C
     unfolding greeted
     greeted-is = ap₂ going in3-is out3-is ∙ ap₂ (ended i3) in4-is out4-is
 
-    exchange-is : exchangeOf (madeOf false x) (madeOf true y) c s b1 b2 k w3 w4 ts ≡ greeted a2 e2 c s w3 w4 ts
+    exchange-is : exchangeOf (madeOf false x) (madeOf true y) c s b1 b2 k k w3 w4 ts ≡ greeted a2 e2 c s w3 w4 ts
     unfolding exchangeOf freshOf
     exchange-is = rw (
       sent1 x y meet c s b1 b2 (w3 .buffer) (w4 .buffer) (w3 .last) (w4 .last) g,
@@ -346,6 +346,6 @@ module _ (x y : Choices) (meet : Meet x y) (both : bothOf x y ≡ true) (c s : C
     ended-well ok =
         record { server = refl; client = refl; heard = all-turns-heard (i4 .end) e4 ts meets-there meets-back ok }
 
-    -- THE THEOREM
-    pub whole-exchange : AllSound ts → Heard x y c s (exchangeOf (madeOf false x) (madeOf true y) c s b1 b2 k w3 w4 ts)
+    -- WITH THE SAME SECRET at both ends; that they derive the same is in proofs/Derived.antt
+    pub whole-exchange : AllSound ts → Heard x y c s (exchangeOf (madeOf false x) (madeOf true y) c s b1 b2 k k w3 w4 ts)
     whole-exchange ok = rw (exchange-is ∙ greeted-is) (ended-well ok)

@@ -27,7 +27,7 @@ use Rattle.packet_out.specs.declared.Sent.the-variants.{Written, Refused}
 use Rattle.packet_out.proofs.PacketLaws.{length-packet, take-front}
 use Rattle.link_next.specs.Next.{afterOf}
 use Rattle.link.specs.Receive.{bodyRefusal}
-use Rattle.opening.specs.declared.NetPid.{NetPid}
+use Rattle.handshake_in.specs.declared.NetPid.{NetPid}
 use Rattle.send_rules.specs.declared.Step.{Step}
 use Rattle.send_rules.specs.Control.{controlAnswer, stepBy, bufferBy, controlStep, controlBuffer}
 use Rattle.handshake_out.specs.Handshake.{flagsOf, handshakeBody, handshakeStep, handshakeBuffer}

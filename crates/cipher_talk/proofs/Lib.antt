@@ -10,3 +10,4 @@ pub mod Turns
 pub mod Greets
 pub mod Exchange
 pub mod WholeBlocks
+pub mod Derived

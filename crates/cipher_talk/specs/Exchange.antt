@@ -1,7 +1,7 @@
 -- A whole exchange of two links of ours: Nonces in clear, Handshakes enciphered, each with a flush behind it, then any
 -- turns (document 01, "Opening"; document 02, A9). Assumes nothing.
 use mathlib.Core.Path.{_≡_}
-use mathlib.Core.Bool.{_&&_}
+use mathlib.Core.Bool.{true, false, _&&_}
 use mathlib.Core.List.{List, [], _∷_}
 use Prim.Native.Nat.{ℕ}
 use lib.ListN.{length}
@@ -12,14 +12,15 @@ use Rattle.cipher_laws.specs.Sizes.{Sized}
 use Rattle.link_state.specs.declared.Link.{Link}
 use Rattle.link_state.specs.declared.Moment.{Moment}
 use Rattle.link.specs.Receive.{receiveOf}
-use Rattle.opening.specs.declared.NetPid.{NetPid}
+use Rattle.handshake_in.specs.declared.NetPid.{NetPid}
 use Rattle.nonce_out.specs.Nonce.{nonceStep, nonceBuffer}
 use Rattle.handshake_out.specs.Handshake.{handshakeBody, handshakeStep, handshakeBuffer}
 use Rattle.pair.specs.Opens.{Choices, Caller}
+use Rattle.cipher_choice.specs.Derives.{Known, derivedBy}
 use Rattle.cipher_talk.specs.Drain.{Got, control}
 use Rattle.cipher_talk.specs.Ends.{End, front, Wrote, sealed, Out, Cut, cutBy, In, allIn, Turn, heardIn, meantIn}
 
--- the AES keys and vectors of what the client sends (1) and of what the server sends (2), which both ends hold
+-- the AES keys and vectors of what the client sends (1) and of what the server sends (2), as an end holds them
 pub record Secret : Type 0 where
   pub key1 : List ℕ
   pub vector1 : List ℕ
@@ -31,6 +32,16 @@ pub record Suited (k : Secret) : Type 0 where
   pub first-vector : Sized 16 (k .vector1)
   pub second-key : Sized 32 (k .key2)
   pub second-vector : Sized 16 (k .vector2)
+
+-- as a driver that knows so derives them with this key, into the buffer b
+abbrev pub secretOf : Known → List ℕ → List ℕ → Secret
+secretOf k key b =
+    record {
+      key1 = derivedBy k false key b .key;
+      vector1 = derivedBy k false key b .vector;
+      key2 = derivedBy k true key b .key;
+      vector2 = derivedBy k true key b .vector;
+    }
 
 -- the ends when the cipher begins, with no bytes left
 abbrev pub clientEnd : Link → Secret → End
@@ -98,15 +109,15 @@ greeted a b c s w3 w4 ts =
       meant = meantIn (in4 .end) (out4 .end) ts;
     }
 
--- the Nonces as in `opens` of crate pair, in the buffers b1 and b2
-unfoldable pub exchangeOf : Link → Link → Caller → Caller → List ℕ → List ℕ → Secret → Way → Way → List Turn
+-- the Nonces as in `opens` of crate pair, in the buffers b1 and b2; the client holds kc then, and the server ks
+unfoldable pub exchangeOf : Link → Link → Caller → Caller → List ℕ → List ℕ → Secret → Secret → Way → Way → List Turn
     → Exchanged
-exchangeOf client server c s b1 b2 k w3 w4 ts =
+exchangeOf client server c s b1 b2 kc ks w3 w4 ts =
     let sent1 = nonceStep client (c .drawn) (c .told) (length b1) in
     let got1 = receiveOf server (nonceBuffer client (c .drawn) (c .told) b1) (s .heard) in
     let sent2 = nonceStep (got1 .link) (s .drawn) (s .told) (length b2) in
     let got2 = receiveOf (sent1 .link) (nonceBuffer (got1 .link) (s .drawn) (s .told) b2) (c .heard) in
-    greeted (clientEnd (got2 .link) k) (serverEnd (sent2 .link) k) c s w3 w4 ts
+    greeted (clientEnd (got2 .link) kc) (serverEnd (sent2 .link) ks) c s w3 w4 ts
 
 -- ---- what should come of it, with these settings of client and server
 

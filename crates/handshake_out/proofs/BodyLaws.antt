@@ -9,7 +9,7 @@ use Rattle.wire.specs.Bytes.{bytes}
 use Rattle.wire.proofs.ByteLaws.{length-bytes}
 use Rattle.wire.proofs.StoreLaws.{runs-3, runs-4}
 use Rattle.handshake_out.specs.Handshake.{pidBytes, handshakeBody}
-use Rattle.opening.specs.declared.NetPid.{NetPid}
+use Rattle.handshake_in.specs.declared.NetPid.{NetPid}
 
 pub length-pid : (p : NetPid) → length (pidBytes p) ≡ 12
 unfolding pidBytes

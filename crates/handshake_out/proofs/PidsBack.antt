@@ -5,8 +5,8 @@ use Prim.Native.Nat.{ℕ, _+_, _<_, _^_}
 use lib.ListN.{length, length-append}
 use Rattle.wire.specs.Bytes.{le, part, bytes}
 use Rattle.wire.proofs.ByteLaws.{length-bytes, le-bytes, part-mid}
-use Rattle.opening.specs.declared.NetPid.{NetPid}
-use Rattle.opening.specs.Pids.{PidFits, pidAt, pidsOf}
+use Rattle.handshake_in.specs.declared.NetPid.{NetPid}
+use Rattle.handshake_in.specs.Pids.{PidFits, pidAt, pidsOf}
 use Rattle.handshake_out.specs.Handshake.{pidBytes, handshakeBody}
 use Rattle.handshake_out.proofs.BodyLaws.{length-pid}
 

@@ -8,7 +8,7 @@ use Rattle.wire.specs.Choice.{pick}
 use Rattle.link_state.specs.declared.Link.{Link}
 use Rattle.send_rules.specs.Control.{controlStep, controlBuffer}
 use Rattle.send_rules.specs.declared.Step.{Step}
-use Rattle.opening.specs.declared.NetPid.{NetPid}
+use Rattle.handshake_in.specs.declared.NetPid.{NetPid}
 
 -- "Flag 0x800 offers CRC-32C; the server sets it if the client did and its own setting allows", which is kept as agreed;
 -- "Other flag bits are .. written as 0"

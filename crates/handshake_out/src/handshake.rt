@@ -1,6 +1,6 @@
 // Our Handshake: 28 bytes.
+use handshake_in::NetPid;
 use link_state::Link;
-use opening::NetPid;
 use packet::HANDSHAKE;
 use packet_out::Sent;
 use packet_out::seal;

@@ -10,9 +10,9 @@ ghost use Prim.Native.Nat.{_*_};
 ghost use lib.Seq.{sets};
 ghost use Rattle.wire.specs.Bytes.{bytes};
 ghost use Rattle.hash_blocks.specs.Blocks.{lengthBytes, endOf};
-use store::copy;
 use store::put_u8;
 use store::put_u64;
+use store_bytes::copy;
 
 // The eight bytes of x, the highest first.
 fn high_first(x: u64) -> [u8; 8]

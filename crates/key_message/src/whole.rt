@@ -1,12 +1,12 @@
 // The message whole.
-use super::Ends;
 use super::InitMessage;
-use super::parts::put_front;
-use super::parts::put_randoms;
+use key_front::Ends;
+use key_front::put_front;
+use key_front::randoms;
 use refusal::BUFFER_TOO_SMALL;
 use refusal::OUT_OF_RANGE;
 use refusal::UNSUITABLE_KEY;
-use store::copy;
+use store_bytes::copy;
 ghost use mathlib.Core.Path.{_≡_};
 ghost use Prim.Native.Nat.{_≤_};
 ghost use lib.ListN.{length};
@@ -50,7 +50,8 @@ fn put_message(buf: &mut [u8], version: u8, server: bool, s: Ends, key: &[u8], s
     put_front(buf, version, server, s);
     copy(buf, 54, key);
     let at = 54 + key.len();
-    put_randoms(buf, at, s);
+    let r = randoms(s);
+    copy(buf, at, &r);
     if version == 2 {
         copy(buf, at + 32, &shared);
     }

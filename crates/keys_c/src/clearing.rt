@@ -7,5 +7,5 @@ ghost use lib.ListN.{length, replicate};
 pub extern "C" fn relay_clear(buf: &mut [u8])
     ensures { λ _. ⌜ now (buf .exit) ≡ replicate (length (now (buf .entry))) 0 ⌝ }
 {
-    store::clear(buf);
+    store_bytes::clear(buf);
 }

@@ -12,7 +12,7 @@ pub use clearing::relay_clear;
 pub use derivation::relay_derive;
 pub use digests::relay_md5;
 pub use digests::relay_sha1;
-use key_message::Ends;
+use key_front::Ends;
 use nonce_in::Place;
 pub use nonces::relay_read_nonce;
 

@@ -11,7 +11,7 @@ use Rattle.packet.specs.Allowed.{refuses}
 use Rattle.packet.specs.declared.Arrival.{Arrival}
 use Rattle.packet.specs.declared.Arrival.the-variants.{Incomplete, Packet, Refused}
 use Rattle.opening.specs.Nonce.{nonceRefusal}
-use Rattle.opening.specs.Handshake.{handshakeRefusal}
+use Rattle.handshake_in.specs.Handshake.{handshakeRefusal}
 use Rattle.link_next.specs.KeepAlive.{pingRefusal, pongRefusal}
 use Rattle.link_next.specs.Next.{refusedOf, afterOf}
 use Rattle.link.specs.Look.{lookOf}

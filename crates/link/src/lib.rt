@@ -2,8 +2,8 @@
 //
 // A caller lends bytes and the moment, and gets an answer; no socket, clock or random source is touched. `receive_step`
 // takes a link by value and hands it back beside the answer; `receive` is the same over a link that is lent and updated
-// where it stands. Framing is in the crate `packet_in`, the bodies of the opening in `opening`, the link after a packet
-// or a refusal in `link_next`, sending in `send`.
+// where it stands. Framing is in the crate `packet_in`, the bodies of the opening in `opening` and `handshake_in`, the
+// link after a packet or a refusal in `link_next`, sending in `send`.
 mod step;
 mod turn;
 

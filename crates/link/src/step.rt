@@ -1,13 +1,13 @@
 // The by-value core of receive.
 use crate::Received;
 use crate::turn::look;
+use handshake_in::handshake_refusal;
 use link_next::after;
 use link_next::ping_refusal;
 use link_next::pong_refusal;
 use link_next::refused;
 use link_state::Link;
 use link_state::Moment;
-use opening::handshake_refusal;
 use opening::nonce_refusal;
 use packet::Arrival;
 use packet::HANDSHAKE;

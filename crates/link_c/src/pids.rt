@@ -1,8 +1,8 @@
 // The NetPIDs of a Handshake.
-use opening::NetPids;
-use opening::net_pids;
+use handshake_in::NetPids;
+use handshake_in::net_pids;
 ghost use mathlib.Core.Path.{_≡_};
-ghost use Rattle.opening.specs.Pids.{pidsOf};
+ghost use Rattle.handshake_in.specs.Pids.{pidsOf};
 
 // The NetPIDs that a Handshake with this body names.
 #[no_mangle]

@@ -24,7 +24,7 @@ pub(crate) fn hexadecimal(n: u32) {
 // A space and a signed number: its bits say how far a negative one is from 0.
 pub(crate) fn signed(n: i64) {
     let mut bits = [0u8; 8];
-    store::put_i64(&mut bits, 0, n);
+    store_signed::put_i64(&mut bits, 0, n);
     let raw = wire::u64_at(&bits, 0);
     if n < 0 {
         bytes(b" -");

@@ -8,6 +8,7 @@ use crate::space::fill;
 use crate::space::front;
 use crate::space::least;
 use crate::space::size;
+use handshake_in::NetPid;
 use invoke::Actor;
 use invoke::Timeout;
 use libc::STDIN_FILENO;
@@ -15,7 +16,6 @@ use link_state::Link;
 use link_state::Moment;
 use message_out::Outgoing;
 use nonce_out::Drawn;
-use opening::NetPid;
 use packet_out::Sent;
 use send::ToSend;
 use send::send_step;
@@ -100,9 +100,9 @@ pub(crate) fn print_answer(word: &[u8], answer: Sent, buffer: &[u8]) {
 // The call that head tells, with these bytes as the payload or text; of a Nonce the first 32 are the point.
 fn call(link: Link, buffer: &mut [u8], head: &[u8], payload: &[u8]) -> Step {
     let mut random = [0u8; 16];
-    store::copy(&mut random, 0, wire::part(head, 5, 16));
+    store_bytes::copy(&mut random, 0, wire::part(head, 5, 16));
     let mut point = [0u8; 32];
-    store::copy(&mut point, 0, front(payload, 32));
+    store_bytes::copy(&mut point, 0, front(payload, 32));
     let moment = Moment {
         time: wire::u32_at(head, 1),
     };

@@ -15,7 +15,7 @@ use Rattle.md5.specs.Md5 as md
 use Rattle.sha1.specs.Sha1 as sh
 use Rattle.md5.specs.declared.State as ms
 use Rattle.sha1.specs.declared.State as ss
-use Rattle.key_message.specs.declared.Ends.{Ends}
+use Rattle.key_front.specs.declared.Ends.{Ends}
 use Rattle.key_message.specs.declared.InitMessage.{InitMessage}
 use Rattle.key_message.specs.declared.InitMessage.the-variants.{Size, Refused}
 use Rattle.key_message.specs.Message.{sizeOf, sizeOrRefusal, message, stored, messageBuffer}

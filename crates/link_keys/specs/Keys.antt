@@ -5,8 +5,8 @@ use mathlib.Core.List.{List, _++_}
 use lib.ListN.{length, take, drop, replicate}
 use Rattle.md5.specs.Md5.{md5}
 use Rattle.sha1.specs.Sha1.{sha1}
+use Rattle.key_front.specs.declared.Ends.{Ends}
 use Rattle.key_message.specs.Message.{message, sizeOrRefusal}
-use Rattle.key_message.specs.declared.Ends.{Ends}
 use Rattle.key_message.specs.declared.InitMessage.{InitMessage}
 use Rattle.key_message.specs.declared.InitMessage.the-variants.{Size, Refused}
 use Rattle.link_keys.specs.declared.Derived.{Derived}

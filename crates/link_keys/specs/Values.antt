@@ -9,8 +9,9 @@ use Rattle.hash_blocks.specs.Words.{rotl}
 use Rattle.hash_blocks.specs.Blocks.{lengthBytes, zerosFor, fillOf, filled, chained, hashed}
 use Rattle.md5.specs.Md5 as md
 use Rattle.sha1.specs.Sha1 as sh
-use Rattle.key_message.specs.declared.End.{End}
-use Rattle.key_message.specs.Message.{randomsOf, directionOf, ipOrTime, inVersion0, frontOf, sharedOf, message}
+use Rattle.key_front.specs.declared.End.{End}
+use Rattle.key_front.specs.Front.{randomsOf, directionOf, ipOrTime, inVersion0, frontOf}
+use Rattle.key_message.specs.Message.{sharedOf, message}
 use Rattle.link_keys.specs.Keys.{keyOf, vectorOf}
 
 -- random bytes "abcdefghijklmnop" and "ABCDEFGHIJKLMNOP"

@@ -2,7 +2,7 @@
 use super::Derived;
 use super::hashes::aes_key;
 use super::hashes::start_vector;
-use key_message::Ends;
+use key_front::Ends;
 use key_message::InitMessage;
 use key_message::write_message;
 use wire::part;
@@ -12,7 +12,8 @@ ghost use Rattle.link_keys.specs.Keys.{derived};
 
 // The keys of a version for one direction, from the server or from the client, with the key that both sides have and,
 // for version 2, the 32 bytes that they share by Diffie-Hellman. The buffer then holds the message, and so the key and
-// the shared bytes: the caller clears it (`store::clear`), the answer and its own copies when it is done with them.
+// the shared bytes: the caller clears it (`store_bytes::clear`), the answer and its own copies when it is done with
+// them.
 pub fn derive(
     buf: &mut [u8],
     version: u8,

@@ -10,7 +10,7 @@ use Rattle.link_state.specs.declared.Moment.{Moment}
 use Rattle.link_state.specs.Turn.{stageAfter}
 use Rattle.link_cipher.specs.Chosen.{encryptionAt, chosenOf}
 use Rattle.opening.specs.Nonce.{versionAt}
-use Rattle.opening.specs.Handshake.{flagOf}
+use Rattle.handshake_in.specs.Handshake.{flagOf}
 use Rattle.link_next.specs.KeepAlive.{awaitsAfter, owesAfter, owedAfter}
 
 -- a link, closed

@@ -2,11 +2,11 @@
 use crate::keep_alive::awaits_after;
 use crate::keep_alive::owed_after;
 use crate::keep_alive::owes_after;
+use handshake_in::flagged;
 use link_cipher::chosen;
 use link_state::Link;
 use link_state::Moment;
 use link_state::stage_after;
-use opening::flagged;
 use packet::HANDSHAKE;
 use packet::NONCE;
 use refusal::BEYOND_OFFER;

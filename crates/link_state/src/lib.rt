@@ -22,8 +22,8 @@ pub struct Settings {
     pub allows: bool,
     // the lowest version that the other side's Nonce may have, 0 to 2: 0 takes every version
     pub lowest: u8,
-    // whether the link is padded: zeros follow each packet, and words may stand between packets, from the Handshakes
-    // on
+    // whether the link is padded by hand (a ciphered one is padded anyway): zeros follow each packet, and words may
+    // stand between packets, from the Handshakes on
     pub padded: bool,
     // whether the cipher is offered by a client, or taken by a server; such a link is set up with a key
     pub cipher: bool,

@@ -28,7 +28,7 @@ use Rattle.packet_in.specs.Frame.{lengthAt, numberAt, kindAt, wholeSize, wholeO
 use Rattle.opening.specs.Clock.{nearOf}
 use Rattle.link_cipher.specs.Chosen.{cipherRefused}
 use Rattle.opening.specs.Nonce.{leastOf, versionAt, beyondOf, nonceRefusal}
-use Rattle.opening.specs.Handshake.{flagOf, handshakeRefusal}
+use Rattle.handshake_in.specs.Handshake.{flagOf, handshakeRefusal}
 use Rattle.link_next.specs.KeepAlive.{idAt, pingRefusal, pongRefusal}
 use Rattle.link.specs.Look.{turnRefusal, lookOf}
 use Rattle.link_next.specs.Next.{closesOf, refusedOf}

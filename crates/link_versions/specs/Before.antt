@@ -15,7 +15,7 @@ use Rattle.packet.specs.declared.Arrival.the-variants.{Incomplete, Packet, Refu
 use Rattle.opening.specs.Clock.{nearOf}
 use Rattle.link_cipher.specs.Chosen.{cipherRefused}
 use Rattle.opening.specs.Nonce.{leastOf, versionAt, beyondOf}
-use Rattle.opening.specs.Handshake.{handshakeRefusal}
+use Rattle.handshake_in.specs.Handshake.{handshakeRefusal}
 use Rattle.link_next.specs.KeepAlive.{pingRefusal, pongRefusal}
 use Rattle.link.specs.Look.{lookOf}
 use Rattle.link_next.specs.Next.{closedOf, afterOf}

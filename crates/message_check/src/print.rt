@@ -12,7 +12,7 @@ pub(crate) fn decimal(n: u64) {
 // A signed number: its bits say how far a negative one is from 0.
 pub(crate) fn signed(n: i64) {
     let mut bits = [0u8; 8];
-    store::put_i64(&mut bits, 0, n);
+    store_signed::put_i64(&mut bits, 0, n);
     let raw = wire::u64_at(&bits, 0);
     if n < 0 {
         bytes(b"-");
@@ -24,7 +24,7 @@ pub(crate) fn signed(n: i64) {
 
 pub(crate) fn signed32(n: i32) {
     let mut bits = [0u8; 4];
-    store::put_i32(&mut bits, 0, n);
+    store_signed::put_i32(&mut bits, 0, n);
     let raw = wire::u32_at(&bits, 0);
     if n < 0 {
         bytes(b"-");

@@ -1,5 +1,3 @@
--- Definitions of crate opening: the other side's Nonce and Handshake.
+-- Definitions of crate opening: the other side's Nonce.
 pub mod Clock
 pub mod Nonce
-pub mod Handshake
-pub mod Pids

@@ -24,7 +24,7 @@ use Rattle.packet.specs.declared.Arrival.the-variants.{Packet}
 use Rattle.packet_out.specs.Size.{sizeOf, fitsOf}
 use Rattle.packet_out.specs.declared.Sent.the-variants.{Written}
 use Rattle.opening.specs.Nonce.{nonceRefusal}
-use Rattle.opening.specs.Handshake.{flagOf, handshakeRefusal}
+use Rattle.handshake_in.specs.Handshake.{flagOf, handshakeRefusal}
 use Rattle.link.specs.Look.{turnRefusal}
 use Rattle.link_next.specs.KeepAlive.{awaitsAfter, owesAfter, owedAfter}
 use Rattle.link_next.specs.Next.{agreedAfter, versionAfter, cipheredAfter, afterOf}
@@ -33,7 +33,7 @@ use Rattle.send_rules.specs.Control.{sendRefusal, controlAnswer, stepBy, contro
 use Rattle.nonce_out.specs.Nonce.{versionOf, nonceBody, ourNonce, nonceStep, nonceBuffer}
 use Rattle.handshake_out.specs.Handshake.{flagsOf, pidBytes, handshakeBody, handshakeStep, handshakeBuffer}
 use Rattle.send_rules.specs.Sent.{awaitsSent, awaitedSent, owesSent, sentOf}
-use Rattle.opening.specs.declared.NetPid.{NetPid}
+use Rattle.handshake_in.specs.declared.NetPid.{NetPid}
 use Rattle.nonce_out.proofs.BodyLaws.{length-nonce, nonce-version, nonce-cipher}
 use Rattle.handshake_out.proofs.BodyLaws.{length-handshake}
 use Rattle.pair.specs.Awaits.{Awaits}

@@ -19,9 +19,9 @@ use Rattle.packet_out.specs.Size.{sizeOf}
 use Rattle.packet_out.specs.Packet.{packetOf}
 use Rattle.packet_out.specs.declared.Sent.the-variants.{Written}
 use Rattle.packet_out.proofs.PacketLaws.{length-packet}
-use Rattle.opening.specs.declared.NetPid.{NetPid}
-use Rattle.opening.specs.declared.NetPids.{NetPids}
-use Rattle.opening.specs.Pids.{PidFits, pidsOf}
+use Rattle.handshake_in.specs.declared.NetPid.{NetPid}
+use Rattle.handshake_in.specs.declared.NetPids.{NetPids}
+use Rattle.handshake_in.specs.Pids.{PidFits, pidsOf}
 use Rattle.link.specs.Receive.{bodyRefusal, receiveOf}
 use Rattle.link.specs.declared.Received.{Received}
 use Rattle.send_rules.specs.Control.{controlAnswer, controlStep, bufferBy, controlBuffer}

@@ -6,7 +6,7 @@ use Rattle.packet.specs.Padding.{padsOf}
 use Rattle.link.specs.Look.{turnRefusal}
 
 -- k waits for the next packet of l: it awaits its number, under the same checksum, at the same stage and with the same
--- profile, is not closed, and it is l's turn
+-- profile in force now, is not closed, and it is l's turn
 pub record Awaits (k l : Link) : Type 0 where
   pub number : k .gets ≡ l .sends
   pub checksum : castagnoliOf k ≡ castagnoliOf l

@@ -17,7 +17,7 @@ use Rattle.link.specs.Receive.{receiveOf}
 use Rattle.nonce_out.specs.Nonce.{nonceStep, nonceBuffer}
 use Rattle.nonce_out.specs.declared.Drawn.{Drawn}
 use Rattle.handshake_out.specs.Handshake.{handshakeStep, handshakeBuffer}
-use Rattle.opening.specs.declared.NetPid.{NetPid}
+use Rattle.handshake_in.specs.declared.NetPid.{NetPid}
 
 -- how a link is set up, but for its side
 pub record Choices : Type 0 where

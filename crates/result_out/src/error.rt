@@ -2,9 +2,9 @@
 use body::Written;
 use body::size_or_refusal;
 use header::REQ_ERROR;
-use store::put_i32;
-use store::put_i64;
 use store::put_u32;
+use store_signed::put_i32;
+use store_signed::put_i64;
 use text_out::put_text;
 use text_out::text_size;
 ghost use mathlib.Core.Path.{_≡_};

@@ -6,11 +6,11 @@
 // `ToSend`.
 mod step;
 
+use handshake_in::NetPid;
 use link_state::Link;
 use link_state::Moment;
 use message_out::Outgoing;
 use nonce_out::Drawn;
-use opening::NetPid;
 use packet_out::Sent;
 pub use step::send_step;
 ghost use mathlib.Core.Path.{_≡_};

@@ -1,18 +1,12 @@
-// Stores of little-endian numbers and of runs of bytes at an offset of a lent slice, and clearing it.
+// Stores of unsigned little-endian numbers at an offset of a lent slice.
 //
 // Every call is total: what does not fit is left out. Each width is two stores of half the width, so one law serves them
-// all; where the bound is known the compiler makes one store of it. The definitions are crate wire's.
-mod sign;
-
+// all; where the bound is known the compiler makes one store of it. The definitions are crate wire's. Signed numbers are
+// stored by crate `store_signed`, runs of bytes by `store_bytes`.
 ghost use mathlib.Core.Path.{_≡_};
 ghost use Prim.Native.Nat.{_/_, _%_};
-ghost use lib.ListN.{length, replicate};
 ghost use lib.Seq.{sets};
-ghost use mir.Syntax.{w32, w64};
-ghost use mir.Val.{ofZ};
 ghost use Rattle.wire.specs.Bytes.{bytes};
-use crate::sign::bits32;
-use crate::sign::bits64;
 use wire::left;
 
 pub fn put_u8(d: &mut [u8], at: usize, n: u8)
@@ -51,42 +45,4 @@ pub fn put_u64(d: &mut [u8], at: usize, n: u64)
         return;
     }
     put_u32(d, at + 4, (n / 4294967296) as u32);
-}
-
-pub fn put_i32(d: &mut [u8], at: usize, n: i32)
-    ensures { λ _. ⌜ now (d .exit) ≡ sets (now (d .entry)) at (bytes 4 (ofZ w32 n)) ⌝ }
-{
-    put_u32(d, at, bits32(n));
-}
-
-pub fn put_i64(d: &mut [u8], at: usize, n: i64)
-    ensures { λ _. ⌜ now (d .exit) ≡ sets (now (d .entry)) at (bytes 8 (ofZ w64 n)) ⌝ }
-{
-    put_u64(d, at, bits64(n));
-}
-
-// All of t from at on, or as much of it as d has room for.
-pub fn copy(d: &mut [u8], at: usize, t: &[u8])
-    ensures { λ _. ⌜ now (d .exit) ≡ sets (now (d .entry)) at (now (t .entry)) ⌝ }
-{
-    let room = left(d, at);
-    let mut i = 0;
-    while i < t.len() {
-        if room <= i {
-            return;
-        }
-        d[at + i] = t[i];
-        i += 1;
-    }
-}
-
-// Every byte becomes 0.
-pub fn clear(d: &mut [u8])
-    ensures { λ _. ⌜ now (d .exit) ≡ replicate (length (now (d .entry))) 0 ⌝ }
-{
-    let mut i = 0;
-    while i < d.len() {
-        d[i] = 0;
-        i += 1;
-    }
 }

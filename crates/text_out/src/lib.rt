@@ -2,10 +2,10 @@
 //
 // Both public calls are total: a text that is too long or does not fit is not stored. Nothing here looks at what the bytes
 // of a text mean. The form's definition and its reader are in the crate `text`.
-use store::copy;
 use store::put_u8;
 use store::put_u16;
 use store::put_u32;
+use store_bytes::copy;
 use wire::left;
 ghost use mathlib.Core.Path.{_≡_};
 ghost use Prim.Native.Nat.{_+_, _≤_, _<_};

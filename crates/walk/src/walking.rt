@@ -4,7 +4,7 @@ use super::events::event;
 use super::events::must_wait;
 use super::events::record_size;
 use inflight::Table;
-use store::copy;
+use store_bytes::copy;
 use walk_turn::turn;
 use wire::left;
 ghost use mathlib.Core.Path.{_≡_};

@@ -1,5 +1,5 @@
 // Lines of text, stored in a lent slice from a place on. What does not fit is left out; each call hands back the place after its text.
-use store::copy;
+use store_bytes::copy;
 ghost use mathlib.Core.Path.{_≡_};
 ghost use mathlib.Core.List.{[], _∷_};
 ghost use Prim.Native.Nat.{_+_, _%_, _<_, _≤_};

@@ -2,7 +2,7 @@
 //
 // Every call is total: bytes past the end count as 0. Nothing here knows a packet or a message. The definitions `part`,
 // `le` and `bytes` are in specs/Bytes.antt, the choices `pick` and `first` in specs/Choice.antt, and the laws on bytes,
-// stores and signed numbers in proofs/. Crate `store` writes.
+// stores and signed numbers in proofs/. Crates `store`, `store_signed` and `store_bytes` write.
 mod read;
 mod sign;
 mod slice;

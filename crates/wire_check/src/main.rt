@@ -70,7 +70,7 @@ fn least(a: usize, b: usize) -> usize
 
 fn copy_first(d: &mut [u8], at: usize, t: &[u8], n: usize) {
     let m = least(n, t.len());
-    store::copy(d, at, &t[0..m]);
+    store_bytes::copy(d, at, &t[0..m]);
 }
 
 // The store of this kind, at an offset of d.
@@ -81,8 +81,8 @@ fn store(d: &mut [u8], kind: u8, at: usize, value: u64) {
         0 => store::put_u16(d, at, (value % 65536) as u16),
         1 => store::put_u32(d, at, (value % 4294967296) as u32),
         2 => store::put_u64(d, at, value),
-        3 => store::put_i32(d, at, wire::i32_at(&bytes, 0)),
-        4 => store::put_i64(d, at, wire::i64_at(&bytes, 0)),
+        3 => store_signed::put_i32(d, at, wire::i32_at(&bytes, 0)),
+        4 => store_signed::put_i64(d, at, wire::i64_at(&bytes, 0)),
         _ => copy_first(d, at, &bytes, place(value % 9)),
     }
 }
@@ -91,7 +91,7 @@ fn store(d: &mut [u8], kind: u8, at: usize, value: u64) {
 fn print_stored(s: &[u8], kind: u8, at: usize, value: u64) {
     let mut space = [0u8; 32];
     let d: &mut [u8] = &mut space;
-    store::copy(d, 0, s);
+    store_bytes::copy(d, 0, s);
     let n = least(s.len(), d.len());
     store(&mut d[0..n], kind, at, value);
     print_front(d, n);

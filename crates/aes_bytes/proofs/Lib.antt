@@ -1,0 +1,2 @@
+-- Laws of crate aes_bytes.
+pub mod Bytes
