@@ -296,7 +296,8 @@ relay_sent relay_flush(relay_link *link, uint8_t *buf, size_t room);
  *      link.ciphered. If it is false, go on in clear and clear the key. Else, before anything else is sent or received:
  *   4. relay_read_nonce of the body that relay_body gave, and of our own Nonce: what relay_send wrote, but for the
  *      first 12 bytes and the last 4. Fill one relay_derivation: the version of the server's Nonce, random and time of
- *      each Nonce, in version 0 both addresses, in version 2 the shared bytes.
+ *      each Nonce, in version 0 both addresses, in version 2 the shared bytes. If the card has none for the other's
+ *      point (one of small order, for instance), the link ends here: nothing goes on without keys.
  *   5. relay_derive with from_server false, for what the client sends, and true, for what the server sends. Of our own
  *      direction relay_encipher_keys, of the other relay_decipher_keys; keep these and each direction's vector.
  *   6. relay_clear of the key, the shared bytes, both init messages, both relay_derived and both relay_cipher_key.
