@@ -49,22 +49,26 @@ pointBy (Refused k) body = replicate 32 0
 
 -- ---- the Nonces of two links, as in `opens` of crate pair, in the buffers b1 and b2
 
--- the bodies that the receive calls named, and the server's link between the two
+-- the bodies that the receive calls named, the server's link between the two, and both links after them
 pub record Nonces : Type 0 where
   pub from-client : List ℕ
   pub between : Link
   pub from-server : List ℕ
+  pub client : Link
+  pub server : Link
 
 abbrev pub noncesOf : Link → Link → Caller → Caller → List ℕ → List ℕ → Nonces
 noncesOf client server c s b1 b2 =
-    let sent1 = nonceBuffer client (c .drawn) (c .told) b1 in
-    let got1 = receiveOf server sent1 (s .heard) in
-    let sent2 = nonceBuffer (got1 .link) (s .drawn) (s .told) b2 in
-    let got2 = receiveOf (nonceStep client (c .drawn) (c .told) (length b1) .link) sent2 (c .heard) in
+    let first = nonceBuffer client (c .drawn) (c .told) b1 in
+    let got1 = receiveOf server first (s .heard) in
+    let second = nonceBuffer (got1 .link) (s .drawn) (s .told) b2 in
+    let got2 = receiveOf (nonceStep client (c .drawn) (c .told) (length b1) .link) second (c .heard) in
     record {
-      from-client = bodyOf sent1 (got1 .answer);
+      from-client = bodyOf first (got1 .answer);
       between = got1 .link;
-      from-server = bodyOf sent2 (got2 .answer);
+      from-server = bodyOf second (got2 .answer);
+      client = got2 .link;
+      server = nonceStep (got1 .link) (s .drawn) (s .told) (length b2) .link;
     }
 
 -- ---- what a driver gives to the derivation, beside direction, key and buffer

@@ -11,12 +11,10 @@ use Rattle.aes.specs.Back.{backKeys}
 use Rattle.cipher_laws.specs.Sizes.{Sized}
 use Rattle.link_state.specs.declared.Link.{Link}
 use Rattle.link_state.specs.declared.Moment.{Moment}
-use Rattle.link.specs.Receive.{receiveOf}
 use Rattle.handshake_in.specs.declared.NetPid.{NetPid}
-use Rattle.nonce_out.specs.Nonce.{nonceStep, nonceBuffer}
 use Rattle.handshake_out.specs.Handshake.{handshakeBody, handshakeStep, handshakeBuffer}
 use Rattle.pair.specs.Opens.{Choices, Caller}
-use Rattle.cipher_choice.specs.Derives.{Known, derivedBy}
+use Rattle.cipher_choice.specs.Derives.{noncesOf, Known, derivedBy}
 use Rattle.cipher_talk.specs.Drain.{Got, control}
 use Rattle.cipher_talk.specs.Ends.{End, front, Wrote, sealed, Out, Cut, cutBy, In, allIn, Turn, heardIn, meantIn}
 
@@ -109,15 +107,12 @@ greeted a b c s w3 w4 ts =
       meant = meantIn (in4 .end) (out4 .end) ts;
     }
 
--- the Nonces as in `opens` of crate pair, in the buffers b1 and b2; the client holds kc then, and the server ks
+-- the Nonces in the buffers b1 and b2; after them the client holds kc, and the server ks
 unfoldable pub exchangeOf : Link → Link → Caller → Caller → List ℕ → List ℕ → Secret → Secret → Way → Way → List Turn
     → Exchanged
 exchangeOf client server c s b1 b2 kc ks w3 w4 ts =
-    let sent1 = nonceStep client (c .drawn) (c .told) (length b1) in
-    let got1 = receiveOf server (nonceBuffer client (c .drawn) (c .told) b1) (s .heard) in
-    let sent2 = nonceStep (got1 .link) (s .drawn) (s .told) (length b2) in
-    let got2 = receiveOf (sent1 .link) (nonceBuffer (got1 .link) (s .drawn) (s .told) b2) (c .heard) in
-    greeted (clientEnd (got2 .link) kc) (serverEnd (sent2 .link) ks) c s w3 w4 ts
+    let n = noncesOf client server c s b1 b2 in
+    greeted (clientEnd (n .client) kc) (serverEnd (n .server) ks) c s w3 w4 ts
 
 -- ---- what should come of it, with these settings of client and server
 
