@@ -89,10 +89,18 @@ fn cases(payload: &[u8]) -> Vec<Case> {
     let headed = Invoke { actor: Some(-5), timeout: Some(300), ..plain };
     vec![
         Case::new("invoke, actor and timeout, 1 KiB", Message::Invoke(headed)),
+        zero_timeout(Case::new("invoke, actor and a timeout of 0, 1 KiB", Message::Invoke(headed))),
         Case::new("invoke, no header, 1 KiB", Message::Invoke(plain)),
         Case::new("result, 1 KiB", Message::Result(77, Outcome::Payload(payload))),
         Case::new("result, error with a text of 64 bytes", Message::Result(77, Outcome::Error(-3000, &payload[..64]))),
     ]
+}
+
+/// With a field of 0, which no writer writes.
+fn zero_timeout(case: Case) -> Case {
+    let mut case = case;
+    case.body[24..28].fill(0);
+    case
 }
 
 /// Cases that are compared and not timed: the other kinds, and bodies that are cut.

@@ -103,7 +103,7 @@ typedef struct relay_message {
     uint8_t kind;
     uint8_t refusal;  /* why it was refused */
     bool hasactor;    /* an invoke names an actor */
-    bool hastimeout;  /* an invoke has a timeout */
+    bool hastimeout;  /* an invoke has a timeout: exactly if timeout is not 0, since a field of 0 means none */
     bool tl2;         /* an invoke has the TL2 marker */
     int64_t number;   /* the query number */
     int64_t actor;
@@ -249,7 +249,7 @@ typedef struct relay_outgoing {
     uint32_t kind;    /* the packet's type */
     bool error;       /* a result is an error: the payload lent to relay_send is its text */
     bool hasactor;    /* an invoke names an actor */
-    bool hastimeout;  /* an invoke has a timeout */
+    bool hastimeout;  /* an invoke has a timeout; one of 0 is none, and no field is sent for it */
     bool tl2;         /* an invoke has the TL2 marker */
     uint32_t timeout; /* in milliseconds */
     int32_t code;     /* an error's */

@@ -34,7 +34,7 @@ pub enum Message<P> {
 pub struct Invoke<P> {
     pub number: i64,
     pub actor: Option<i64>,
-    /// In milliseconds; a field of 0 is a timeout of 0.
+    /// In milliseconds. Never read as 0; given as 0 it is written as none.
     pub timeout: Option<u32>,
     pub tl2: bool,
     pub payload: P,
@@ -45,6 +45,12 @@ pub enum Outcome<P> {
     Payload(P),
     /// Code and text.
     Error(i32, P),
+}
+
+/// What a timeout of so many milliseconds means: 0 is what a front end fills in
+/// when its user set nothing, so it is none (document 02, A1).
+fn unless_zero(timeout: u32) -> Option<u32> {
+    (timeout != 0).then_some(timeout)
 }
 
 /// A part of a body.

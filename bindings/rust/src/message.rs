@@ -18,7 +18,7 @@ pub struct Invoke<'a> {
     /// The query number, not 0.
     pub number: i64,
     pub actor: Option<i64>,
-    /// In milliseconds.
+    /// In milliseconds. It is never read as 0, and one of 0 is sent as none.
     pub timeout: Option<u32>,
     /// Whether the payload is in TL2.
     pub tl2: bool,

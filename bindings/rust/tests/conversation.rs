@@ -166,7 +166,7 @@ fn an_invoke_and_its_result() {
         let invoke = Message::Invoke(Invoke {
             number: -77,
             actor: Some(5),
-            timeout: Some(0),
+            timeout: Some(300),
             tl2: false,
             payload: b"request",
         });
@@ -186,6 +186,38 @@ fn an_invoke_and_its_result() {
             };
             let (kind, body) = pair.pass(Side::Server, ToSend::Message(result));
             assert_eq!(read_message(Side::Client, kind, &body), Ok(result));
+        }
+    }
+}
+
+/// It is sent like none, whatever else the invoke has, and heard as none.
+#[test]
+fn a_timeout_of_0_is_none() {
+    for (client, server) in SETTINGS {
+        let mut pair = Pair::open(client, server);
+        for (actor, tl2) in [
+            (None, false),
+            (None, true),
+            (Some(5), false),
+            (Some(0), true),
+        ] {
+            let with = |timeout| {
+                Message::Invoke(Invoke {
+                    number: 1,
+                    actor,
+                    timeout,
+                    tl2,
+                    payload: b"request",
+                })
+            };
+            let [none, zero, one] = [None, Some(0), Some(1)].map(|timeout| {
+                let (kind, body) = pair.pass(Side::Client, ToSend::Message(with(timeout)));
+                let meant = with(timeout.filter(|&ms| ms != 0));
+                assert_eq!(read_message(Side::Server, kind, &body), Ok(meant));
+                body
+            });
+            assert_eq!(zero, none);
+            assert!(one.len() > none.len());
         }
     }
 }

@@ -13,8 +13,8 @@ use Rattle.wire.proofs.ByteLaws.{Small}
 use Rattle.crc.specs.Crc.{clock, clocks, feed, feeds, crc}
 use Rattle.header.specs.Headers.{requestKind, kindOf}
 use Rattle.text.specs.TextForm.{readText, textAfter}
-use Rattle.invoke.specs.Headers.{readExtra, flagsOf, actorOf, bothOf, nextOf, headersFrom}
-use Rattle.invoke.specs.ReadInvoke.{readInvoke}
+use Rattle.invoke_headers.specs.Headers.{readExtra, flagsOf, actorOf, bothOf, nextOf, headersFrom}
+use Rattle.invoke_in.specs.ReadInvoke.{readInvoke}
 use Rattle.message.specs.PartOf.{partOf}
 use Rattle.message.specs.ReadMessage.{toServer, readMessage}
 use Rattle.link_state.specs.declared.Link.{Link}
@@ -23,7 +23,7 @@ use Rattle.link_state.specs.Turn.{maySend, stageAfter}
 use Rattle.packet.specs.Sum.{castagnoliOf, sumOf}
 use Rattle.packet.specs.Allowed.{allowedOf}
 use Rattle.packet_head.specs.Head.{lengthRefusal, headRefusal}
-use Rattle.packet.specs.Padding.{paddedOf, padsOf, tailOf, wordsAllowed, phaseAfter}
+use Rattle.packet_padding.specs.Padding.{paddedOf, padsOf, tailOf, wordsAllowed, phaseAfter}
 use Rattle.packet_head.specs.Words.{wordAt, wordsOf}
 use Rattle.packet_in.specs.Frame.{wholeOf, rowsOf, frameOf}
 use Rattle.opening.specs.Clock.{clockOf, nonceClock, nearOf}

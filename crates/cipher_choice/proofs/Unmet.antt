@@ -16,7 +16,7 @@ use Rattle.link_cipher.specs.Offered.{offerOf, encryptionOf, offersOrTakes, sen
 use Rattle.link_cipher.specs.Chosen.{serverRefuses, encryptionRefused, chosenOf, cipherRefused}
 use Rattle.packet.specs.Sum.{castagnoliOf}
 use Rattle.packet.specs.Allowed.{allowedOf}
-use Rattle.packet.specs.Padding.{padsOf, tailOf}
+use Rattle.packet_padding.specs.Padding.{padsOf, tailOf}
 use Rattle.packet.specs.declared.Arrival.the-variants.{Refused}
 use Rattle.packet_head.specs.Head.{lengthRefusal}
 use Rattle.packet_out.specs.Size.{sizeOf, fitsOf}

@@ -15,7 +15,7 @@ use Rattle.link_state.specs.declared.Moment.{Moment}
 use Rattle.link_state.specs.SetUp.{freshOf}
 use Rattle.link_state.specs.Turn.{maySend, stageAfter}
 use Rattle.packet.specs.Sum.{castagnoliOf}
-use Rattle.packet.specs.Padding.{paddedOf, padsOf, tailOf, wordsAllowed, foursOf, phaseAfter}
+use Rattle.packet_padding.specs.Padding.{paddedOf, padsOf, tailOf, wordsAllowed, foursOf, phaseAfter}
 use Rattle.packet_out.specs.Size.{sizeOf}
 use Rattle.packet_out.specs.Packet.{packetOf}
 use Rattle.link.specs.Look.{turnRefusal}

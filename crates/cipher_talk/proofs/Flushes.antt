@@ -11,7 +11,7 @@ use lib.Dec.{leb}
 use Rattle.wire.specs.Choice.{pick}
 use Rattle.cipher_laws.specs.Sizes.{Whole}
 use Rattle.link_state.specs.declared.Link.{Link}
-use Rattle.packet.specs.Padding.{paddedOf, padsOf, foursOf, phaseAfter}
+use Rattle.packet_padding.specs.Padding.{paddedOf, padsOf, foursOf, phaseAfter}
 use Rattle.packet_out.specs.declared.Sent.the-variants.{Written}
 use Rattle.packet_out.proofs.PacketLaws.{take-front}
 use Rattle.send_rules.specs.declared.Step.{Step}

@@ -18,7 +18,7 @@ use Rattle.cipher_laws.proofs.Calls.{done-forth, bytes-forth}
 use Rattle.link_state.specs.declared.Link.{Link}
 use Rattle.link_state.specs.declared.Moment.{Moment}
 use Rattle.packet.specs.Allowed.{allowedOf}
-use Rattle.packet.specs.Padding.{foursOf}
+use Rattle.packet_padding.specs.Padding.{foursOf}
 use Rattle.packet_head.specs.Head.{lengthRefusal}
 use Rattle.packet_out.specs.Size.{sizeOf}
 use Rattle.packet_out.specs.Packet.{packetOf}

@@ -10,7 +10,7 @@ use Rattle.wire.proofs.ByteLaws.{Small}
 use Rattle.cipher_laws.specs.Sizes.{Bytes}
 use Rattle.link_state.specs.declared.Link.{Link}
 use Rattle.packet.specs.Sum.{sumOf}
-use Rattle.packet.specs.Padding.{tailOf, foursOf}
+use Rattle.packet_padding.specs.Padding.{tailOf, foursOf}
 use Rattle.packet_out.specs.Packet.{frontOf, packetOf}
 use Rattle.pair.proofs.SumLaws.{small-append, small-bytes, small-front}
 use Rattle.pair.proofs.NoncePasses.{small-zeros}

@@ -12,7 +12,7 @@ use Rattle.wire.specs.Choice.{pick}
 use Rattle.link_state.specs.declared.Link.{Link}
 use Rattle.link_state.specs.declared.Moment.{Moment}
 use Rattle.packet.specs.Body.{bodyOf}
-use Rattle.packet.specs.Padding.{wordsAllowed, foursOf}
+use Rattle.packet_padding.specs.Padding.{wordsAllowed, foursOf}
 use Rattle.packet.specs.declared.Arrival.the-variants.{Packet}
 use Rattle.packet_out.specs.Size.{sizeOf}
 use Rattle.packet_out.specs.Packet.{packetOf}

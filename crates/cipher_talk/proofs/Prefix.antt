@@ -12,7 +12,7 @@ use Rattle.wire.specs.Bytes.{le, part, bytes}
 use Rattle.wire.proofs.ByteLaws.{length-bytes, part-part}
 use Rattle.link_state.specs.declared.Link.{Link}
 use Rattle.link_state.specs.declared.Moment.{Moment}
-use Rattle.packet.specs.Padding.{tailOf, wordsAllowed, foursOf}
+use Rattle.packet_padding.specs.Padding.{tailOf, wordsAllowed, foursOf}
 use Rattle.packet.specs.declared.Arrival.the-variants.{Incomplete}
 use Rattle.packet_head.specs.Head.{lengthRefusal, headRefusal}
 use Rattle.packet_in.specs.Frame.{rowsOf, frameOf}

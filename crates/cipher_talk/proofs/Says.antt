@@ -12,8 +12,8 @@ use Rattle.wire.proofs.ByteLaws.{Small}
 use Rattle.header.specs.declared.Side.{Side}
 use Rattle.link_state.specs.declared.Link.{Link}
 use Rattle.link_state.specs.declared.Moment.{Moment}
-use Rattle.packet.specs.Padding.{paddedOf, padsOf, wordsAllowed, foursOf, phaseAfter}
-use Rattle.packet.proofs.PaddingLaws.{tail-whole}
+use Rattle.packet_padding.specs.Padding.{paddedOf, padsOf, wordsAllowed, foursOf, phaseAfter}
+use Rattle.packet_padding.proofs.PaddingLaws.{tail-whole}
 use Rattle.packet_out.specs.Size.{sizeOf}
 use Rattle.packet_out.specs.Packet.{packetOf}
 use Rattle.packet_out.specs.declared.Sent.{Sent}

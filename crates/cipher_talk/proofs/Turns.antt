@@ -14,7 +14,7 @@ use Rattle.cipher_laws.proofs.Schedule.{keys-of}
 use Rattle.cipher_laws.proofs.Calls.{done-forth, bytes-forth}
 use Rattle.link_state.specs.declared.Link.{Link}
 use Rattle.link_state.specs.declared.Moment.{Moment}
-use Rattle.packet.specs.Padding.{foursOf}
+use Rattle.packet_padding.specs.Padding.{foursOf}
 use Rattle.flush.specs.Flush.{wordsDue, flushStep}
 use Rattle.flush.proofs.FlushLaws.{due-small}
 use Rattle.pair.proofs.SumLaws.{small-append}

@@ -7,7 +7,7 @@ use lib.ListN.{length, getD}
 use Rattle.link_state.specs.declared.Link.{Link}
 use Rattle.link_state.specs.declared.Moment.{Moment}
 use Rattle.packet.specs.Allowed.{allowedOf}
-use Rattle.packet.specs.Padding.{wordsAllowed, foursOf}
+use Rattle.packet_padding.specs.Padding.{wordsAllowed, foursOf}
 use Rattle.packet_head.specs.Head.{lengthRefusal}
 use Rattle.packet_out.specs.Packet.{packetOf}
 use Rattle.link.specs.Look.{turnRefusal}

@@ -13,7 +13,7 @@ use Rattle.aes.specs.declared.Answer.the-variants.{Done}
 use Rattle.cipher_laws.specs.Sizes.{Sized}
 use Rattle.link_state.specs.declared.Link.{Link}
 use Rattle.link_state.specs.declared.Moment.{Moment}
-use Rattle.packet.specs.Padding.{foursOf}
+use Rattle.packet_padding.specs.Padding.{foursOf}
 use Rattle.packet_out.specs.declared.Sent.{Sent}
 use Rattle.packet_out.specs.declared.Sent.the-variants.{Written, Refused}
 use Rattle.message_out.specs.MessageStep.{messageAnswer, messageStep, messageBuffer}

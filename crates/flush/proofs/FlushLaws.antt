@@ -11,7 +11,7 @@ use Rattle.wire.specs.Bytes.{bytes}
 use Rattle.wire.specs.Choice.{pick}
 use Rattle.wire.proofs.StoreLaws.{runs-2, runs-3}
 use Rattle.link_state.specs.declared.Link.{Link}
-use Rattle.packet.specs.Padding.{paddedOf, foursOf}
+use Rattle.packet_padding.specs.Padding.{paddedOf, foursOf}
 use Rattle.packet_out.specs.declared.Sent.the-variants.{Written, Refused}
 use Rattle.flush.specs.Flush.{begunOf, wordsDue, flushAnswer, flushedOf, flushBy, flushIn, flushStep, flushBuffer}
 

@@ -8,7 +8,7 @@ use lib.Seq.{sets}
 use lib.Dec.{ltb, leb}
 use Rattle.wire.specs.Choice.{pick, first}
 use Rattle.link_state.specs.declared.Link.{Link}
-use Rattle.packet.specs.Padding.{paddedOf, foursOf, phaseAfter}
+use Rattle.packet_padding.specs.Padding.{paddedOf, foursOf, phaseAfter}
 use Rattle.packet_out.specs.declared.Sent.{Sent}
 use Rattle.packet_out.specs.declared.Sent.the-variants.{Written, Refused}
 use Rattle.send_rules.specs.declared.Step.{Step}

@@ -1,8 +1,8 @@
 // The by-value core of flush.
 use link_state::Link;
-use packet::padded;
-use packet::phase_after;
 use packet_out::Sent;
+use packet_padding::padded;
+use packet_padding::phase_after;
 use refusal::BUFFER_TOO_SMALL;
 use refusal::LINK_CLOSED;
 use send_rules::Step;
@@ -11,7 +11,7 @@ ghost use mathlib.Core.Path.{_≡_};
 ghost use Prim.Native.Nat.{_≤_};
 ghost use lib.ListN.{length};
 ghost use lib.Seq.{sets};
-ghost use Rattle.packet.specs.Padding.{foursOf};
+ghost use Rattle.packet_padding.specs.Padding.{foursOf};
 ghost use Rattle.flush.specs.Flush.{begunOf, wordsDue, flushedOf, flushStep, flushBuffer};
 
 // Whether our Handshake was sent.

@@ -1,6 +1,6 @@
 // The header values of RPC messages: which of them a 32-bit value is, at either side.
 //
-// Recognition is `kind_of` and nothing else; what follows a header is read by the crates `invoke` and `result`. Nothing
+// Recognition is `kind_of` and nothing else; what follows a header is read by the crates `invoke_headers` and `result`. Nothing
 // here reads a field or refuses anything. The types that matter are `Side`, the side that reads, and `Kind`.
 mod payload;
 mod recognise;

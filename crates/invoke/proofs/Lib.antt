@@ -1,2 +1,2 @@
--- Laws of crate invoke: the invoke reader.
-pub mod InvokeLaws
+-- Laws of crate invoke: what a timeout means.
+pub mod TimeoutLaws

@@ -1,3 +1,2 @@
--- Definitions of crate invoke: the invoke reader.
-pub mod Headers
-pub mod ReadInvoke
+-- Definitions of crate invoke: what an invoke's optional fields mean.
+pub mod Fields

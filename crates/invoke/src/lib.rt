@@ -1,19 +1,21 @@
-// The invoke message: a query number, headers, and a payload; its reader.
+// The invoke message: what a body means, and when two timeouts are one.
 //
-// A header is looked for while the four bytes there are a known value; after the TL2 marker none is. Nothing here copies
-// or keeps a byte of the payload. The types that matter are `Invoke`, what a body means, and `InvokeRead`.
-mod fields;
-mod one_header;
-mod read;
+// The reader is the crate `invoke_in`, the writer `invoke_out`; both take a timeout by `effective_timeout`, so that
+// what the one leaves out the other does not report. Nothing here reads or writes a byte. The type that matters is
+// `Invoke`.
+mod effective;
 
-pub use fields::TIMEOUT_BIT;
-pub use read::read_invoke;
+pub use effective::effective_timeout;
+
+// Bit 23 of an extra's mask: a timeout follows.
+pub const TIMEOUT_BIT: u32 = 0x80_0000;
 
 pub enum Actor {
     Absent,
     Is(i64),
 }
 
+// In milliseconds. 0 is none: no reader reports it, and a writer that is given it writes no field.
 pub enum Timeout {
     Absent,
     Ms(u32),
@@ -31,27 +33,5 @@ pub struct Invoke {
 
 pub enum InvokeRead {
     Invoke(Invoke),
-    Refused(u8),
-}
-
-// What the headers said so far, and where the next one would begin. extra: an extra was read.
-pub struct Headers {
-    pub at: usize,
-    pub actor: Actor,
-    pub extra: bool,
-    pub timeout: Timeout,
-    pub tl2: bool,
-}
-
-// What one header leads to: more headers, the payload, or a refusal's number.
-pub enum Next {
-    More(Headers),
-    Done(Headers),
-    Refused(u8),
-}
-
-// A header's extra, and where it ends; or a refusal's number.
-pub enum Extra {
-    Is { timeout: Timeout, next: usize },
     Refused(u8),
 }

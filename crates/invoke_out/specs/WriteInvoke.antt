@@ -12,15 +12,22 @@ use Rattle.header.specs.Headers.{readsAsHeader}
 use Rattle.header.specs.declared.Side.the-variants.{Server}
 use Rattle.body.specs.Written.{sizeOrRefusal}
 use Rattle.body.specs.declared.Written.{Written}
+use Rattle.invoke.specs.Fields.{effectiveTimeout}
 use Rattle.invoke.specs.declared.Actor as A
 use Rattle.invoke.specs.declared.Timeout as T
 
--- no header for nothing, rpcDestActor, rpcDestFlags, or rpcDestActorFlags; the mask has bit 23 for the timeout
+-- no header for nothing, rpcDestActor, rpcDestFlags, or rpcDestActorFlags; the mask has bit 23 for the timeout, whatever
+-- it is
+unfoldable pub fieldBytes : A.Actor → T.Timeout → List ℕ
+fieldBytes A.the-variants.Absent T.the-variants.Absent = []
+fieldBytes (A.the-variants.Is a) T.the-variants.Absent = bytes 4 0x7568aabd ++ bytes 8 (ofZ w64 a)
+fieldBytes A.the-variants.Absent (T.the-variants.Ms t) = bytes 4 0xe352035e ++ (bytes 4 0x800000 ++ bytes 4 t)
+fieldBytes (A.the-variants.Is a) (T.the-variants.Ms t) =
+    bytes 4 0xf0a5acf7 ++ (bytes 8 (ofZ w64 a) ++ (bytes 4 0x800000 ++ bytes 4 t))
+
+-- the header that is written: for a timeout of 0 "the writer sends no field" (document 02, A1)
 unfoldable pub headerBytes : A.Actor → T.Timeout → List ℕ
-headerBytes A.the-variants.Absent T.the-variants.Absent = []
-headerBytes (A.the-variants.Is a) T.the-variants.Absent = bytes 4 0x7568aabd ++ bytes 8 (ofZ w64 a)
-headerBytes A.the-variants.Absent (T.the-variants.Ms t) = bytes 4 0xe352035e ++ (bytes 4 0x800000 ++ bytes 4 t)
-headerBytes (A.the-variants.Is a) (T.the-variants.Ms t) = bytes 4 0xf0a5acf7 ++ (bytes 8 (ofZ w64 a) ++ (bytes 4 0x800000 ++ bytes 4 t))
+headerBytes a t = fieldBytes a (effectiveTimeout t)
 
 -- rpcTL2Marker, or nothing
 unfoldable pub markerBytes : Bool → List ℕ

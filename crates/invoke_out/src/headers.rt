@@ -6,6 +6,7 @@ use header::TL2_MARKER;
 use invoke::Actor;
 use invoke::TIMEOUT_BIT;
 use invoke::Timeout;
+use invoke::effective_timeout;
 use store::put_u32;
 use store_signed::put_i64;
 ghost use mathlib.Core.Path.{_≡_};
@@ -15,8 +16,9 @@ ghost use Rattle.invoke_out.specs.WriteInvoke.{headerBytes, markerBytes}
 pub(crate) fn put_header(d: &mut [u8], actor: Actor, timeout: Timeout)
     ensures { λ _. ⌜ now (d .exit) ≡ sets (now (d .entry)) 8 (headerBytes actor timeout) ⌝ }
 {
+    let field = effective_timeout(timeout);
     match actor {
-        Actor::Absent => match timeout {
+        Actor::Absent => match field {
             Timeout::Absent => {}
             Timeout::Ms(ms) => {
                 put_u32(d, 8, DEST_FLAGS);
@@ -24,7 +26,7 @@ pub(crate) fn put_header(d: &mut [u8], actor: Actor, timeout: Timeout)
                 put_u32(d, 16, ms);
             }
         },
-        Actor::Is(id) => match timeout {
+        Actor::Is(id) => match field {
             Timeout::Absent => {
                 put_u32(d, 8, DEST_ACTOR);
                 put_i64(d, 12, id);

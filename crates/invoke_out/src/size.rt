@@ -1,6 +1,7 @@
 // How many bytes an invoke's body takes.
 use invoke::Actor;
 use invoke::Timeout;
+use invoke::effective_timeout;
 ghost use mathlib.Core.Path.{_≡_};
 ghost use Prim.Native.Nat.{_≤_};
 ghost use lib.ListN.{length};
@@ -9,12 +10,13 @@ ghost use Rattle.invoke_out.specs.WriteInvoke.{headerBytes, markerBytes,
 pub(crate) fn header_size(actor: Actor, timeout: Timeout) -> usize
     ensures { λ r. ⌜ (r ≡ length (headerBytes actor timeout)) × (r ≤ 20) ⌝ }
 {
+    let field = effective_timeout(timeout);
     match actor {
-        Actor::Absent => match timeout {
+        Actor::Absent => match field {
             Timeout::Absent => 0,
             Timeout::Ms(_) => 12,
         },
-        Actor::Is(_) => match timeout {
+        Actor::Is(_) => match field {
             Timeout::Absent => 12,
             Timeout::Ms(_) => 20,
         },

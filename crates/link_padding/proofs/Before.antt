@@ -10,7 +10,7 @@ use Rattle.wire.specs.Choice.{first}
 use Rattle.wire.specs.Bytes.{le, bytes}
 use Rattle.link_state.specs.declared.Link.{Link}
 use Rattle.link_state.specs.declared.Moment.{Moment}
-use Rattle.packet.specs.Padding.{paddedOf, padsOf, tailOf, wordsAllowed}
+use Rattle.packet_padding.specs.Padding.{paddedOf, padsOf, tailOf, wordsAllowed}
 use Rattle.packet.specs.Sum.{sumOf}
 use Rattle.packet.specs.Allowed.{refuses}
 use Rattle.packet.specs.declared.Arrival.{Arrival}

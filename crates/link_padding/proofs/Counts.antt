@@ -14,8 +14,8 @@ use Rattle.link_state.specs.declared.Moment.{Moment}
 use Rattle.link_state.specs.SetUp.{freshOf}
 use Rattle.link_state.specs.Turn.{maySend, stageAfter}
 use Rattle.packet.specs.Allowed.{allowedOf, refuses}
-use Rattle.packet.specs.Padding.{paddedOf, padsOf, phaseAfter}
-use Rattle.packet.proofs.PaddingLaws.{tail-whole}
+use Rattle.packet_padding.specs.Padding.{paddedOf, padsOf, phaseAfter}
+use Rattle.packet_padding.proofs.PaddingLaws.{tail-whole}
 use Rattle.packet_out.specs.Size.{sizeOf}
 use Rattle.packet_out.specs.declared.Sent.{Sent}
 use Rattle.packet_out.specs.declared.Sent.the-variants.{Written, Refused}

@@ -14,7 +14,7 @@ use Rattle.link_state.specs.declared.Link.{Link}
 use Rattle.link_state.specs.declared.Moment.{Moment}
 use Rattle.packet.specs.Sum.{castagnoliOf}
 use Rattle.packet.specs.Allowed.{allowedOf}
-use Rattle.packet.specs.Padding.{paddedOf, padsOf, wordsAllowed, foursOf}
+use Rattle.packet_padding.specs.Padding.{paddedOf, padsOf, wordsAllowed, foursOf}
 use Rattle.packet.specs.declared.Arrival.the-variants.{Packet}
 use Rattle.packet_head.specs.Head.{lengthRefusal}
 use Rattle.packet_out.specs.Size.{sizeOf}

@@ -19,7 +19,7 @@ use Rattle.link_state.specs.Turn.{maySend}
 use Rattle.link_state.proofs.SetUpLaws.{set-up-takes}
 use Rattle.packet.specs.Sum.{sumOf}
 use Rattle.packet.specs.Allowed.{allowedOf, refuses}
-use Rattle.packet.specs.Padding.{tailOf}
+use Rattle.packet_padding.specs.Padding.{tailOf}
 use Rattle.packet.specs.declared.Arrival.{Arrival}
 use Rattle.packet.specs.declared.Arrival.the-variants.{Incomplete, Packet, Refused}
 use Rattle.packet_head.specs.Head.{lengthRefusal, headRefusal}

@@ -19,7 +19,7 @@ use Rattle.link_state.specs.SetUp.{setUpOf}
 use Rattle.link_state.specs.Turn.{maySend}
 use Rattle.link_state.proofs.SetUpLaws.{set-up-took}
 use Rattle.packet.specs.Sum.{sumOf}
-use Rattle.packet.specs.Padding.{tailOf}
+use Rattle.packet_padding.specs.Padding.{tailOf}
 use Rattle.packet_out.specs.Packet.{headOf, frontOf, packetOf}
 use Rattle.packet_out.specs.declared.Sent.the-variants.{Written}
 use Rattle.packet_out.proofs.PacketLaws.{length-head}

@@ -10,7 +10,7 @@ use Rattle.wire.specs.Bytes.{le, part}
 use Rattle.wire.specs.Choice.{pick, first}
 use Rattle.header.specs.declared.Side.{Side}
 use Rattle.header.specs.declared.Side.the-variants.{Client, Server}
-use Rattle.invoke.specs.ReadInvoke.{readInvoke}
+use Rattle.invoke_in.specs.ReadInvoke.{readInvoke}
 use Rattle.invoke.specs.declared.InvokeRead as I
 use Rattle.result.specs.ReadResult.{readResult, readOldError}
 use Rattle.result.specs.declared.ReplyRead as R

@@ -8,7 +8,7 @@ use crate::types::RESULT;
 use crate::types::SERVER_FIN;
 use header::Side;
 use invoke::InvokeRead;
-use invoke::read_invoke;
+use invoke_in::read_invoke;
 use refusal::BODY_SIZE;
 use refusal::NUMBER_ZERO;
 use refusal::TYPE_NOT_RPC;

@@ -4,7 +4,7 @@ use mathlib.Core.Bool.{Bool, true, false}
 use lib.IntN.{ℤ, pos}
 use Rattle.header.specs.declared.Side.{Side}
 use Rattle.header.specs.declared.Side.the-variants.{Client, Server}
-use Rattle.invoke.specs.Headers.{isGiven}
+use Rattle.invoke.specs.Fields.{isGiven}
 use Rattle.invoke.specs.declared.Actor as A
 use Rattle.invoke.specs.declared.Timeout as T
 use Rattle.invoke.specs.declared.Invoke.{Invoke}

@@ -9,7 +9,7 @@ use message::read_message;
 use result::Answer;
 ghost use mathlib.Core.Path.{_≡_};
 ghost use Rattle.message.specs.ReadMessage.{readMessage};
-ghost use Rattle.invoke.specs.Headers.{isGiven};
+ghost use Rattle.invoke.specs.Fields.{isGiven};
 ghost use Rattle.message_c.specs.MessageFields.{sideOf, actorOf, isLimited, timeoutOf, plainFields, invokeFields, answerFields, fieldsOf};
 
 fn side_of(server: bool) -> Side

@@ -21,6 +21,7 @@ use Rattle.body.specs.declared.Written.the-variants.{Size}
 use Rattle.body.proofs.WrittenLaws.{told, front}
 use Rattle.text.specs.TextForm.{headSize}
 use Rattle.text.proofs.TextLaws.{size-over}
+use Rattle.invoke.specs.Fields.{effectiveTimeout}
 use Rattle.invoke.specs.declared.Actor.{Actor}
 use Rattle.invoke.specs.declared.Timeout.{Timeout}
 use Rattle.invoke_out.specs.WriteInvoke.{invokeBytes, invokeAnswer, payloadRefused}
@@ -33,7 +34,7 @@ use Rattle.cancel_out.specs.WriteShort.{cancelBytes, cancelAnswer, finBytes, fi
 use Rattle.message.specs.declared.Message.{Message}
 use Rattle.message.specs.declared.Message.the-variants as M
 use Rattle.message_laws.specs.Forms.{Front, ReqError, formBytes, formMark, frontBytes, frontedPayload}
-use Rattle.message_laws.specs.RoundTrip.{ReadsAs, ActorFits, TimeoutFits, payloadAt}
+use Rattle.message_laws.specs.RoundTrip.{ReadsAs, invokeWith, ActorFits, TimeoutFits, payloadAt}
 use Rattle.message_laws.proofs.InvokeBack.{read-back, invoke-part}
 use Rattle.message_laws.proofs.ResultBack.{payload-read, payload-part, fronted-payload-read, fronted-payload-part, form-read}
 
@@ -46,7 +47,7 @@ module _ (d : List ℕ) {k : ℕ} where
   pub invoke-back : (n : ℤ) (a : Actor) (t : Timeout) (m : Bool) (p : List ℕ) → SFits w64 n → ActorFits a → TimeoutFits t
       → invokeAnswer n a t m p (length d) ≡ Size k
       → ReadsAs (readMessage Server 0x2374df3d) (take k (bytesAfter (Size k) d (invokeBytes n a t m p)))
-      (M.Invoke (record { number = n; actor = a; timeout = t; tl2 = m; at = payloadAt a t m; len = length p })) p
+      (M.Invoke (invokeWith n a (effectiveTimeout t) m (payloadAt a t m) (length p))) p
   unfolding invokeAnswer readMessage toServer partOf
   invoke-back n a t m p f fa ft e =
       let x = invokeBytes n a t m p in

@@ -34,7 +34,7 @@ use Rattle.message.specs.declared.Message.the-variants as M
 use Rattle.message_laws.specs.Forms.{Form, ReqError, Wrapped, Numbered, Old, formType, formMark, formBytes, errorMeaning}
 use Rattle.message_laws.specs.Forms.{Front, Plain, Headed, frontBytes, formFront, frontedBytes, frontedPayload}
 use Rattle.message_laws.specs.Forms as S
-use Rattle.message_laws.proofs.InvokeBack.{other}
+use Rattle.message_laws.proofs.InvokeForms.{other}
 use Rattle.message_laws.proofs.TextBack.{text-back}
 use Rattle.message_laws.proofs.Within.{within-is}
 

@@ -4,10 +4,12 @@ use Prim.Native.Nat.{ℕ, _+_, _<_}
 use mathlib.Core.List.{List}
 use mathlib.Core.Bool.{Bool}
 use lib.ListN.{length}
+use lib.IntN.{ℤ}
 use mir.Syntax.{w64}
 use mir.Val.{SFits}
 use Rattle.invoke.specs.declared.Actor as A
 use Rattle.invoke.specs.declared.Timeout as T
+use Rattle.invoke.specs.declared.Invoke.{Invoke}
 use Rattle.invoke_out.specs.WriteInvoke.{headerBytes, markerBytes}
 use Rattle.message.specs.PartOf.{partOf}
 use Rattle.message.specs.declared.Message.{Message}
@@ -15,6 +17,10 @@ use Rattle.message.specs.declared.Message.{Message}
 -- what `read` finds in s is the message m, and the part that m names there is p
 abbrev pub ReadsAs : (List ℕ → Message) → List ℕ → Message → List ℕ → Type 0
 ReadsAs read s m p = (read s ≡ m) × (partOf s m ≡ p)
+
+-- an invoke, by its fields in their order
+abbrev pub invokeWith : ℤ → A.Actor → T.Timeout → Bool → ℕ → ℕ → Invoke
+invokeWith n a t m at len = record { number = n; actor = a; timeout = t; tl2 = m; at = at; len = len }
 
 -- an actor is signed, 64 bits; a timeout has 32 bits
 abbrev pub ActorFits : A.Actor → Type 0

@@ -13,7 +13,7 @@ use lib.Dec.{ltb}
 use Rattle.wire.specs.Choice.{pick}
 use Rattle.wire.proofs.StoreLaws.{sets-past}
 use Rattle.link_state.specs.declared.Link.{Link}
-use Rattle.packet.specs.Padding.{padsOf, tailOf}
+use Rattle.packet_padding.specs.Padding.{padsOf, tailOf}
 use Rattle.packet_out.specs.Size.{sizeOf, usableOf}
 use Rattle.body.specs.Written.{bytesAfter}
 use Rattle.body.specs.declared.Written.{Written}

@@ -1,21 +1,15 @@
-// Packets, as either direction needs them: which types may go over a link now, the checksum in use, the padded profile,
-// and the answer of a receive with the body that it names.
+// Packets, as either direction needs them: which types may go over a link now, the checksum in use, and the answer of a
+// receive with the body that it names.
 //
 // Nothing here reads a body or changes a link, and no byte is copied: an answer names the body by its place, and
 // `body` hands it back. The type that matters is `Arrival`. Reading packets is in the crate `packet_in`, writing in
-// `packet_out`.
+// `packet_out`, the padded profile in `packet_padding`.
 mod allow;
-mod padding;
 mod slice;
 mod sum;
 mod types;
 
 pub use allow::allowed;
-pub use padding::padded;
-pub use padding::pads;
-pub use padding::phase_after;
-pub use padding::tail;
-pub use padding::words_allowed;
 pub use slice::body;
 pub use sum::checksum_of;
 pub use types::HANDSHAKE;

@@ -11,7 +11,7 @@ use lib.Dec.{leb, eqb}
 use Rattle.wire.specs.Bytes.{le, part}
 use Rattle.wire.proofs.ChoiceLaws.{by-row}
 use Rattle.link_state.specs.declared.Link.{Link}
-use Rattle.packet.specs.Padding.{wordsAllowed}
+use Rattle.packet_padding.specs.Padding.{wordsAllowed}
 use Rattle.packet_head.specs.Words.{wordAt, wordsOf}
 
 -- a word is whole

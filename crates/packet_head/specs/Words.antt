@@ -7,7 +7,7 @@ use lib.Dec.{leb, eqb}
 use Rattle.wire.specs.Bytes.{le, part}
 use Rattle.wire.specs.Choice.{first}
 use Rattle.link_state.specs.declared.Link.{Link}
-use Rattle.packet.specs.Padding.{wordsAllowed}
+use Rattle.packet_padding.specs.Padding.{wordsAllowed}
 
 -- one of the "32-bit words of value 4" at a place, whole
 unfoldable pub wordAt : List ℕ → ℕ → Bool

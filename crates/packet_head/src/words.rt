@@ -1,6 +1,6 @@
 // The words before a packet on a padded link.
 use link_state::Link;
-use packet::words_allowed;
+use packet_padding::words_allowed;
 use wire::u32_at;
 ghost use mathlib.Core.Path.{_≡_};
 ghost use Prim.Native.Nat.{_≤_};

@@ -13,7 +13,7 @@ use Rattle.packet.specs.declared.Arrival.{Arrival}
 use Rattle.packet.specs.declared.Arrival.the-variants.{Incomplete, Packet, Refused}
 use Rattle.packet.specs.Sum.{sumOf}
 use Rattle.packet.specs.Allowed.{refuses}
-use Rattle.packet.specs.Padding.{tailOf}
+use Rattle.packet_padding.specs.Padding.{tailOf}
 use Rattle.packet_head.specs.Head.{lengthRefusal, headRefusal}
 use Rattle.packet_head.specs.Words.{wordsOf}
 

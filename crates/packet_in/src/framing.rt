@@ -3,10 +3,10 @@
 use link_state::Link;
 use packet::Arrival;
 use packet::checksum_of;
-use packet::tail;
 use packet_head::head_refusal;
 use packet_head::length_refusal;
 use packet_head::words::words;
+use packet_padding::tail;
 use refusal::CHECKSUM;
 use refusal::FOURTH_WORD;
 use refusal::PADDING_NOT_ZERO;

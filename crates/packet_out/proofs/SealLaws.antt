@@ -11,7 +11,7 @@ use Rattle.wire.proofs.ByteLaws.{length-bytes, part-sets}
 use Rattle.wire.proofs.StoreLaws.{runs-3, front-stored}
 use Rattle.link_state.specs.declared.Link.{Link}
 use Rattle.packet.specs.Sum.{sumOf}
-use Rattle.packet.specs.Padding.{tailOf}
+use Rattle.packet_padding.specs.Padding.{tailOf}
 use Rattle.packet_out.specs.Size.{sizeOf}
 use Rattle.packet_out.specs.Packet.{headOf, frontOf, packetOf, sealedOf}
 use Rattle.packet_out.proofs.PacketLaws.{length-head, length-front, length-packet, take-front, drop-sets, store-again}

@@ -9,7 +9,7 @@ use Rattle.wire.specs.Bytes.{part, bytes}
 use Rattle.wire.specs.Choice.{first}
 use Rattle.link_state.specs.declared.Link.{Link}
 use Rattle.packet.specs.Sum.{sumOf}
-use Rattle.packet.specs.Padding.{tailOf}
+use Rattle.packet_padding.specs.Padding.{tailOf}
 use Rattle.packet_out.specs.Size.{sizeOf}
 
 -- length, number, type

@@ -3,7 +3,7 @@ use crate::size::LONGEST_BODY;
 use crate::size::size_of;
 use link_state::Link;
 use packet::checksum_of;
-use packet::tail;
+use packet_padding::tail;
 use store::put_u8;
 use store::put_u32;
 ghost use mathlib.Core.Path.{_≡_};

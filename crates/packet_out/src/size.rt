@@ -1,8 +1,8 @@
 // The size of a packet, and whether it may be written.
 use crate::Sent;
 use link_state::Link;
-use packet::pads;
-use packet::tail;
+use packet_padding::pads;
+use packet_padding::tail;
 use refusal::BUFFER_TOO_SMALL;
 use refusal::LENGTH_OVER_LIMIT;
 ghost use mathlib.Core.Path.{_≡_};

@@ -15,7 +15,7 @@ use Rattle.link_state.specs.declared.Link.{Link}
 use Rattle.link_state.specs.declared.Moment.{Moment}
 use Rattle.link_state.specs.Turn.{maySend, stageAfter}
 use Rattle.packet.specs.Allowed.{allowedOf}
-use Rattle.packet.specs.Padding.{padsOf, tailOf}
+use Rattle.packet_padding.specs.Padding.{padsOf, tailOf}
 use Rattle.packet.specs.declared.Arrival.the-variants.{Packet}
 use Rattle.packet_out.specs.Packet.{packetOf}
 use Rattle.packet_out.specs.Size.{sizeOf, fitsOf}

@@ -18,7 +18,7 @@ use Rattle.link_cipher.specs.Offered.{offerOf, encryptionOf, offersOrTakes, sen
 use Rattle.link_state.specs.Turn.{maySend, stageAfter}
 use Rattle.packet.specs.Sum.{castagnoliOf}
 use Rattle.packet.specs.Allowed.{allowedOf}
-use Rattle.packet.specs.Padding.{paddedOf, padsOf, tailOf, phaseAfter}
+use Rattle.packet_padding.specs.Padding.{paddedOf, padsOf, tailOf, phaseAfter}
 use Rattle.packet_head.specs.Head.{lengthRefusal}
 use Rattle.packet.specs.declared.Arrival.the-variants.{Packet}
 use Rattle.packet_out.specs.Size.{sizeOf, fitsOf}

@@ -18,7 +18,7 @@ use Rattle.link_state.specs.declared.Link.{Link}
 use Rattle.link_state.specs.declared.Moment.{Moment}
 use Rattle.packet.specs.Sum.{castagnoliOf, sumOf}
 use Rattle.packet.specs.Allowed.{allowedOf}
-use Rattle.packet.specs.Padding.{padsOf, tailOf, wordsAllowed, foursOf}
+use Rattle.packet_padding.specs.Padding.{padsOf, tailOf, wordsAllowed, foursOf}
 use Rattle.packet_head.specs.Head.{lengthRefusal, headRefusal}
 use Rattle.packet_in.specs.Frame.{wholeOf, rowsOf}
 use Rattle.packet.specs.declared.Arrival.the-variants.{Packet}

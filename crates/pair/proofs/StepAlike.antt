@@ -11,7 +11,7 @@ use Rattle.link_state.specs.declared.Moment.{Moment}
 use Rattle.link_state.specs.Turn.{stageAfter}
 use Rattle.packet.specs.Sum.{castagnoliOf}
 use Rattle.packet.specs.Allowed.{allowedOf}
-use Rattle.packet.specs.Padding.{paddedOf, padsOf}
+use Rattle.packet_padding.specs.Padding.{paddedOf, padsOf}
 use Rattle.link.specs.Look.{turnRefusal}
 use Rattle.link_next.specs.Next.{agreedAfter, cipheredAfter, afterOf}
 use Rattle.send_rules.specs.Sent.{sentOf}

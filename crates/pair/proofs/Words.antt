@@ -12,7 +12,7 @@ use Rattle.wire.specs.Bytes.{le, part, bytes}
 use Rattle.wire.specs.Choice.{pick, first}
 use Rattle.wire.proofs.ByteLaws.{length-bytes, le-bytes, part-mid}
 use Rattle.link_state.specs.declared.Link.{Link}
-use Rattle.packet.specs.Padding.{paddedOf, wordsAllowed, foursOf}
+use Rattle.packet_padding.specs.Padding.{paddedOf, wordsAllowed, foursOf}
 use Rattle.packet.specs.declared.Arrival.the-variants.{Incomplete}
 use Rattle.packet_head.specs.Words.{wordAt, wordsOf}
 use Rattle.packet_in.specs.Frame.{rowsOf, frameOf}

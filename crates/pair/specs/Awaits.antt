@@ -2,7 +2,7 @@
 use mathlib.Core.Path.{_≡_}
 use Rattle.link_state.specs.declared.Link.{Link}
 use Rattle.packet.specs.Sum.{castagnoliOf}
-use Rattle.packet.specs.Padding.{padsOf}
+use Rattle.packet_padding.specs.Padding.{padsOf}
 use Rattle.link.specs.Look.{turnRefusal}
 
 -- k waits for the next packet of l: it awaits its number, under the same checksum, at the same stage and with the same

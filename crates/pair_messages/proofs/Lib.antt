@@ -5,3 +5,4 @@ pub mod Received
 pub mod Read
 pub mod Delivered
 pub mod Conversation
+pub mod ZeroSent

@@ -13,9 +13,10 @@ use Rattle.wire.specs.Bytes.{bytes}
 use Rattle.wire.specs.Choice.{pick}
 use Rattle.wire.proofs.ByteLaws.{Small}
 use Rattle.text.specs.TextForm.{padOf, textHead, headSize, textBytes}
+use Rattle.invoke.specs.Fields.{effectiveTimeout}
 use Rattle.invoke.specs.declared.Actor as A
 use Rattle.invoke.specs.declared.Timeout as T
-use Rattle.invoke_out.specs.WriteInvoke.{headerBytes, markerBytes, invokeBytes}
+use Rattle.invoke_out.specs.WriteInvoke.{fieldBytes, headerBytes, markerBytes, invokeBytes}
 use Rattle.result_out.specs.WriteResult.{payloadBytes, errorBytes}
 use Rattle.cancel_out.specs.WriteShort.{cancelBytes}
 use Rattle.message_out.specs.Outgoing.{bodyOf}
@@ -27,17 +28,22 @@ use Rattle.pair.proofs.NoncePasses.{small-zeros}
 small-none : Small []
 small-none i = lit< tt
 
-small-header : (a : A.Actor) (t : T.Timeout) → Small (headerBytes a t)
-unfolding headerBytes
-small-header A.the-variants.Absent T.the-variants.Absent = small-none
-small-header (A.the-variants.Is a) T.the-variants.Absent = small-append (bytes 4 0x7568aabd) (bytes 8 (ofZ w64 a)) (small-bytes 4 0x7568aabd) (small-bytes 8 (ofZ w64 a))
-small-header A.the-variants.Absent (T.the-variants.Ms t) =
+small-fields : (a : A.Actor) (t : T.Timeout) → Small (fieldBytes a t)
+unfolding fieldBytes
+small-fields A.the-variants.Absent T.the-variants.Absent = small-none
+small-fields (A.the-variants.Is a) T.the-variants.Absent =
+    small-append (bytes 4 0x7568aabd) (bytes 8 (ofZ w64 a)) (small-bytes 4 0x7568aabd) (small-bytes 8 (ofZ w64 a))
+small-fields A.the-variants.Absent (T.the-variants.Ms t) =
     small-append (bytes 4 0xe352035e) (bytes 4 0x800000 ++ bytes 4 t) (small-bytes 4 0xe352035e)
     (small-append (bytes 4 0x800000) (bytes 4 t) (small-bytes 4 0x800000) (small-bytes 4 t))
-small-header (A.the-variants.Is a) (T.the-variants.Ms t) =
+small-fields (A.the-variants.Is a) (T.the-variants.Ms t) =
     small-append (bytes 4 0xf0a5acf7) (bytes 8 (ofZ w64 a) ++ (bytes 4 0x800000 ++ bytes 4 t)) (small-bytes 4 0xf0a5acf7)
     (small-append (bytes 8 (ofZ w64 a)) (bytes 4 0x800000 ++ bytes 4 t) (small-bytes 8 (ofZ w64 a))
     (small-append (bytes 4 0x800000) (bytes 4 t) (small-bytes 4 0x800000) (small-bytes 4 t)))
+
+small-header : (a : A.Actor) (t : T.Timeout) → Small (headerBytes a t)
+unfolding headerBytes
+small-header a t = small-fields a (effectiveTimeout t)
 
 small-marker : (m : Bool) → Small (markerBytes m)
 unfolding markerBytes

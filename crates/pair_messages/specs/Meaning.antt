@@ -6,17 +6,19 @@ use lib.ListN.{length}
 use mir.Syntax.{w32, w64}
 use mir.Val.{SFits}
 use Rattle.text.specs.TextForm.{headSize}
+use Rattle.invoke.specs.Fields.{effectiveTimeout}
 use Rattle.result.specs.declared.Answer as A
 use Rattle.message.specs.declared.Message.{Message}
 use Rattle.message.specs.declared.Message.the-variants as M
-use Rattle.message_laws.specs.RoundTrip.{ActorFits, TimeoutFits, payloadAt}
+use Rattle.message_laws.specs.RoundTrip.{invokeWith, ActorFits, TimeoutFits, payloadAt}
 use Rattle.message_out.specs.declared.Outgoing.{Outgoing}
 use Rattle.message_out.specs.declared.Outgoing.the-variants.{Invoke, Cancel, ClientFin, Payload, Error, ServerFin, Unknown}
 
--- number, actor, timeout, TL2 and rest of an invoke; number and page of a result, or number, code and text: the places
--- of rest, page and text are those in the body. An unknown type is never written; its reader would refuse it
+-- number, actor, timeout, TL2 and rest of an invoke, where a timeout of 0 is none (document 02, A1); number and page of
+-- a result, or number, code and text: the places of rest, page and text are those in the body. An unknown type is never
+-- written; its reader would refuse it
 unfoldable pub meaningOf : Outgoing → List ℕ → Message
-meaningOf (Invoke n a t m) p = M.Invoke (record { number = n; actor = a; timeout = t; tl2 = m; at = payloadAt a t m; len = length p })
+meaningOf (Invoke n a t m) p = M.Invoke (invokeWith n a (effectiveTimeout t) m (payloadAt a t m) (length p))
 meaningOf (Cancel n) p = M.Cancel n
 meaningOf ClientFin p = M.ClientFin
 meaningOf (Payload n) p = M.Result (record { number = n; answer = A.the-variants.Payload 8 (length p) })

@@ -5,7 +5,7 @@ use lib.Dec.{eqb}
 use Rattle.wire.specs.Choice.{pick}
 use Rattle.link_state.specs.declared.Link.{Link}
 use Rattle.link_state.specs.Turn.{stageAfter}
-use Rattle.packet.specs.Padding.{phaseAfter}
+use Rattle.packet_padding.specs.Padding.{phaseAfter}
 
 -- "One Ping of ours may be unanswered": a Ping is, until its Pong comes
 unfoldable pub awaitsSent : Link → ℕ → Bool

@@ -13,8 +13,9 @@ enum Answer {
 pub struct Counts(BTreeMap<(&'static str, Answer), u64>);
 
 /// The refusals that each call has; those of a link are in their order.
-const REFUSALS: [(&str, &[u8]); 16] = [
+const REFUSALS: [(&str, &[u8]); 17] = [
     ("read", &[19, 11, 12, 13, 14, 17, 18]),
+    ("field of 0", &[19, 11, 12, 13, 14]),
     ("set-up", &[36, 30]),
     ("set-up with a key", &[36, 30]),
     ("Nonce", &[7]),

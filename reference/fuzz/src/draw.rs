@@ -86,13 +86,24 @@ pub fn message(g: &mut Generator, sender: Side) -> Message<Vec<u8>> {
         (Side::Client, _) => Message::Invoke(Invoke {
             number,
             actor: coin(g).then(|| query_number(g)),
-            timeout: coin(g).then(|| g.pick(&[0, 1, 300, u32::MAX])),
+            timeout: coin(g).then(|| timeout(g)),
             tl2: one_in(g, 3),
             payload: payload(g),
         }),
         (Side::Server, 0) => Message::ServerFin,
         (Side::Server, 1..4) => Message::Result(number, Outcome::Error(g.draw() as i32, text(g))),
         (Side::Server, _) => Message::Result(number, Outcome::Payload(payload(g))),
+    }
+}
+
+/// Often 0, which is none, and what is 0 in some of its bytes.
+pub fn timeout(g: &mut Generator) -> u32 {
+    match g.below(12) {
+        0..4 => 0,
+        4 => 1,
+        5..9 => 1 << (8 * g.below(4)),
+        9 => u32::MAX,
+        _ => g.draw() as u32,
     }
 }
 

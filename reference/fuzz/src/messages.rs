@@ -23,6 +23,9 @@ const TYPES: [u32; 9] = [
     PING,
 ];
 
+/// The mask of an extra with a timeout, and a timeout that is none.
+const FIELD_OF_0: [u8; 8] = [0, 0, 0x80, 0, 0, 0, 0, 0];
+
 pub fn case(g: &mut Generator, counts: &mut Counts) -> Compared {
     let sender = draw::side(g);
     let mut reader = draw::other(sender);
@@ -75,7 +78,7 @@ fn headers(g: &mut Generator) -> Vec<u8> {
             let mask: u32 = g.pick(&[0, 1 << 23, 1 << 23, 1 << 23 | 1, 1 << 22, 1 << 24, 1 << 31]);
             body.extend(mask.to_le_bytes());
             if mask & 1 << 23 != 0 {
-                body.extend((g.draw() as u32).to_le_bytes());
+                body.extend(draw::timeout(g).to_le_bytes());
             }
         }
     }
@@ -124,7 +127,11 @@ pub fn compare(reader: Side, packet_type: u32, body: &[u8], counts: &mut Counts)
     let ours = ours.map(|message| spans(message, body));
     let second = message::read(reader, packet_type, body);
     let second = second.map_err(|refusal| refusal.number());
-    counts.add("read", second.as_ref().map(kind).map_err(|number| *number));
+    let outcome = || second.as_ref().map(kind).map_err(|number| *number);
+    counts.add("read", outcome());
+    if packet_type == v::INVOKE && body.windows(8).any(|part| part == FIELD_OF_0) {
+        counts.add("field of 0", outcome());
+    }
     same("a read", call, ours.map_err(|r| r.number()), second)
 }
 

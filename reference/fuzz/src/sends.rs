@@ -161,7 +161,7 @@ fn long(g: &mut Generator, end: &End, peer: &End, counts: &mut Counts) -> Compar
         (reference::message::Side::Client, _) => Message::Invoke(Invoke {
             number,
             actor: None,
-            timeout: None,
+            timeout: g.pick(&[None, Some(0)]),
             tl2,
             payload: &bytes[..LONGEST_BODY - 12 + beyond],
         }),

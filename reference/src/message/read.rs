@@ -3,7 +3,7 @@
 use super::fields::Fields;
 use super::text;
 use super::values as v;
-use super::{Invoke, Message, Outcome, Side, Span};
+use super::{unless_zero, Invoke, Message, Outcome, Side, Span};
 use crate::refusal::Refusal;
 
 type Read = Result<Message<Span>, Refusal>;
@@ -63,7 +63,7 @@ fn invoke(mut fields: Fields) -> Read {
 struct Headers {
     actor: Option<i64>,
     /// The outer option says whether there was an extra at all: even one
-    /// without a timeout may not be repeated.
+    /// without a timeout, or with a field of 0, may not be repeated.
     extra: Option<Option<u32>>,
     tl2: bool,
 }
@@ -91,10 +91,11 @@ impl Headers {
     }
 }
 
+/// A field of 0 is taken like any other, but says as much as no field.
 fn extra(fields: &mut Fields) -> Result<Option<u32>, Refusal> {
     match fields.u32()? {
         0 => Ok(None),
-        v::TIMEOUT_BIT => fields.u32().map(Some),
+        v::TIMEOUT_BIT => fields.u32().map(unless_zero),
         _ => Err(Refusal::NotCarried),
     }
 }

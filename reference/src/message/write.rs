@@ -3,7 +3,7 @@
 
 use super::text;
 use super::values as v;
-use super::{Invoke, Message, Outcome};
+use super::{unless_zero, Invoke, Message, Outcome};
 use crate::refusal::Refusal;
 
 /// What a packet has besides its body, and the most it may have with it.
@@ -45,7 +45,8 @@ fn numbered(number: i64) -> Result<Vec<u8>, Refusal> {
 
 fn invoke_body(invoke: &Invoke<&[u8]>) -> Result<Vec<u8>, Refusal> {
     let mut body = numbered(invoke.number)?;
-    match (invoke.actor, invoke.timeout) {
+    // Publishers drop a request at once if its field is 0, so none is sent.
+    match (invoke.actor, invoke.timeout.and_then(unless_zero)) {
         (None, None) => {}
         (Some(actor), None) => {
             body.extend(v::DEST_ACTOR.to_le_bytes());

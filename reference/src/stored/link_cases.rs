@@ -30,6 +30,7 @@ use super::link_sending::Sending;
 use super::link_settings;
 use super::link_turns;
 use super::link_versions;
+use super::link_zero_timeouts;
 use super::message_cases::FILLING;
 use super::records::Records;
 use crate::checksum::{CRC32, CRC32C};
@@ -57,6 +58,7 @@ pub fn input() -> Vec<u8> {
     link_versions::push(&mut records);
     link_padded::push(&mut records);
     link_ciphered::push(&mut records);
+    link_zero_timeouts::push(&mut records);
     records
 }
 

@@ -4,9 +4,17 @@
 //! type (4 bytes), then n (4 bytes) and n bytes of body. Op 1 writes: the
 //! fields of a message, room (4 bytes), then n (4 bytes) and n bytes, its
 //! payload or text. The lent buffer of `room` bytes is full of 0xa5 before.
+//!
+//! The records of a later request come behind all earlier ones, whose bytes
+//! stay.
+
+#[cfg(test)]
+mod tests;
 
 use super::message_reads;
 use super::message_writes;
+use super::message_zero_reads;
+use super::message_zero_writes;
 use super::records::{push_run, Draft, Records};
 use crate::checksum::CRC32;
 use crate::generator::Generator;
@@ -24,6 +32,8 @@ pub fn input() -> Vec<u8> {
     let mut records = Vec::new();
     message_reads::push(&mut records, &mut generator);
     message_writes::push(&mut records, &mut generator);
+    message_zero_reads::push(&mut records);
+    message_zero_writes::push(&mut records);
     records
 }
 
@@ -101,69 +111,4 @@ fn write_line(records: &mut Records) -> Result<String, Refusal> {
     let mut buffer = vec![FILLING; records.u32() as usize];
     let size = message::write(&draft.message(records.run()), &mut buffer)?;
     Ok(format!("size {size} {:08x}", CRC32.of(&buffer)))
-}
-
-#[cfg(test)]
-mod tests {
-    use super::*;
-    use crate::message::values as v;
-
-    fn lines(records: &[u8]) -> String {
-        String::from_utf8(output(records)).unwrap()
-    }
-
-    fn read(reader: Side, packet_type: u32, body: &[u8]) -> String {
-        let mut records = Vec::new();
-        push_read(&mut records, reader, packet_type, body);
-        lines(&records)
-    }
-
-    #[test]
-    fn lines_of_reads_by_hand() {
-        let body = b"\xff\xff\xff\xff\xff\xff\xff\xff\
-                     \x5e\x03\x52\xe3\x00\x00\x80\x00\x0e\x01\x00\x00\
-                     \x54\x4c\x32\x29abc";
-        let line = read(Side::Server, v::INVOKE, body);
-        assert_eq!(line, "invoke -1 - 270 1 24 3\n");
-        assert_eq!(read(Side::Client, v::INVOKE, body), "no 19\n");
-        assert_eq!(read(Side::Server, v::CLIENT_FIN, b""), "client_fin\n");
-        let error = b"\x02\0\0\0\0\0\0\0\xfe\xff\xff\xff\x02no\0";
-        let line = read(Side::Client, v::OLD_ERROR, error);
-        assert_eq!(line, "result 2 error -2 13 2\n");
-    }
-
-    #[test]
-    fn lines_of_writes_by_hand() {
-        let mut records = Vec::new();
-        let draft = Draft::new(super::super::records::CANCEL, 1);
-        push_write(&mut records, &draft, 9, b"");
-        push_write(&mut records, &draft, 7, b"");
-        let crc = CRC32.of(b"\x01\0\0\0\0\0\0\0\xa5");
-        assert_eq!(lines(&records), format!("size 8 {crc:08x}\nno 16\n"));
-    }
-
-    #[test]
-    fn every_refusal_and_meaning_occurs() {
-        let text = lines(&input());
-        let count = |start: &str| text.lines().filter(|line| line.starts_with(start)).count();
-        for refusal in 11..=19 {
-            let start = format!("no {refusal}");
-            assert!(count(&start) >= 150, "{start}: {}", count(&start));
-        }
-        for start in [
-            "invoke ",
-            "cancel ",
-            "client_fin",
-            "server_fin",
-            "result ",
-            "size ",
-        ] {
-            assert!(count(start) >= 50, "{start}: {}", count(start));
-        }
-    }
-
-    #[test]
-    fn within_the_agreed_size() {
-        assert!(input().len() <= 1_500_000, "{}", input().len());
-    }
 }

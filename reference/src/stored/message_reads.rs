@@ -41,7 +41,7 @@ pub fn push(records: &mut Vec<u8>, generator: &mut Generator) {
 }
 
 pub struct Reads<'a> {
-    records: &'a mut Vec<u8>,
+    pub records: &'a mut Vec<u8>,
 }
 
 impl Reads<'_> {

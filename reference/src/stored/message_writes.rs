@@ -23,9 +23,11 @@ struct Writes<'a> {
 }
 
 impl Writes<'_> {
-    /// With room just enough, one byte less, none, and more than enough.
+    /// With room just enough, one byte less, none, and more than enough. A
+    /// timeout of 0 once took a field, as any other still does: these records
+    /// keep the rooms they had then.
     fn push(&mut self, draft: &Draft, bytes: &[u8]) {
-        let size = message::body(&draft.message(bytes)).map_or(40, |body| body.len());
+        let size = size_with_field(draft, bytes).unwrap_or(40);
         for room in [size, size.saturating_sub(1), 0, size + 7] {
             self.roomy(draft, room, bytes);
         }
@@ -43,6 +45,15 @@ impl Writes<'_> {
             push_read(self.records, reader, message.packet_type(), &body);
         }
     }
+}
+
+/// The size of the body with a field for its timeout even if that is 0; none
+/// if the message is refused.
+pub fn size_with_field(draft: &Draft, bytes: &[u8]) -> Option<usize> {
+    let timeout = draft.timeout.max(1);
+    let draft = Draft { timeout, ..*draft };
+    let body = message::body(&draft.message(bytes));
+    body.ok().map(|body| body.len())
 }
 
 const NUMBERS: [i64; 6] = [0, 1, -1, i64::MIN, i64::MAX, 1 << 32];

@@ -3,12 +3,15 @@
 mod cipher;
 mod cipher_faults;
 mod connections;
+#[path = "../no_timeout/mod.rs"]
+mod no_timeout;
 #[path = "../other_end/mod.rs"]
 mod other_end;
 mod padded;
 mod padding_faults;
 mod repeated;
 mod requests;
+mod timeouts;
 #[path = "../unreadable/mod.rs"]
 mod unreadable;
 mod unreadable_messages;

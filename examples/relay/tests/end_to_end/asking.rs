@@ -2,6 +2,7 @@
 
 use crate::claims::Claim;
 use crate::front::{Front, Life};
+use crate::no_timeout;
 use crate::request::Request;
 use crate::unreadable::REQUESTS;
 use reference::link::Outgoing;
@@ -56,7 +57,16 @@ impl Front {
     pub fn ask(&mut self, life: &mut Life, number: i64) {
         let request = self.request(number);
         let payload = request.payload();
-        life.socket.end.send_message(request.message(&payload));
+        let invoke = request.invoke(&payload);
+        let says_none = invoke.timeout.is_none() && self.generator.below(4) == 0;
+        if says_none {
+            let forms = no_timeout::forms(&invoke);
+            let (has_field, body) = &forms[self.generator.below(forms.len() as u64) as usize];
+            life.socket.end.send_raw(values::INVOKE, body);
+            self.tally.add("timeouts of 0", u64::from(*has_field));
+        } else {
+            life.socket.end.send_message(Message::Invoke(invoke));
+        }
         self.claim(life, request, payload, None);
     }
 
@@ -97,7 +107,7 @@ impl Front {
             number,
             serial,
             actor: (generator.below(8) > 0).then_some(actor),
-            timeout: (generator.below(3) == 0).then(|| generator.below(5000) as u32),
+            timeout: (generator.below(3) == 0).then(|| 1 + generator.below(4999) as u32),
             tl2: generator.below(4) == 0,
             filler: generator.below(longest) as u32,
         }

@@ -1,9 +1,9 @@
 //! End to end, over loopback: the relay's program, 32 front ends and eight
 //! publishers that the second program plays. Answers come in any order, late,
-//! twice, unreadable or never; requests are cancelled; connections break on both
-//! sides; packets are cut anywhere. Each front end checks each answer. There is
-//! a run for each choice of the sides whose links are padded, and two with links
-//! that go through the cipher.
+//! twice, unreadable or never; requests are cancelled; some have a timeout of 0;
+//! connections break on both sides; packets are cut anywhere. Each front end checks
+//! each answer, each publisher each request. There is a run for each choice of the
+//! sides whose links are padded, and two with links that go through the cipher.
 //!
 //! Beside these runs, with its own relay each, what happens step by step: to old
 //! publishers, to what cannot be read, to slow readers, to slow openings, on links
@@ -14,6 +14,8 @@ mod asking;
 mod cipher;
 mod claims;
 mod front;
+#[path = "../no_timeout/mod.rs"]
+mod no_timeout;
 mod old_publisher;
 mod openings;
 #[path = "../other_end/mod.rs"]
@@ -214,6 +216,7 @@ fn check_all_happened(tally: &Tally, counts: &Tally) {
         "link broken",
         "link repeated",
         "link finished",
+        "timeouts of 0",
         "pongs to front ends",
         "pongs to publishers",
         "relay pings answered",

@@ -4,7 +4,7 @@
 use crate::unreadable::{Unreadable, ANSWERS};
 use reference::generator::Generator;
 use reference::message::values::DEST_ACTOR;
-use reference::message::{Invoke, Message};
+use reference::message::Invoke;
 use reference::numbers::{read_i64, read_u32, read_u64};
 
 /// Before the code of a publisher's own error.
@@ -22,6 +22,7 @@ pub struct Request {
     /// Differs for all requests of a front end.
     pub serial: u64,
     pub actor: Option<i64>,
+    /// As it is meant: never 0.
     pub timeout: Option<u32>,
     pub tl2: bool,
     pub filler: u32,
@@ -48,14 +49,14 @@ impl Request {
         payload
     }
 
-    pub fn message<'a>(&self, payload: &'a [u8]) -> Message<&'a [u8]> {
-        Message::Invoke(Invoke {
+    pub fn invoke<'a>(&self, payload: &'a [u8]) -> Invoke<&'a [u8]> {
+        Invoke {
             number: self.number,
             actor: self.actor,
             timeout: self.timeout,
             tl2: self.tl2,
             payload,
-        })
+        }
     }
 
     /// The request that a publisher got, if its payload says the same.

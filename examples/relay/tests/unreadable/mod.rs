@@ -62,10 +62,11 @@ pub const ANSWERS: [Unreadable; 18] = [
 ];
 
 /// Of a front end.
-pub const REQUESTS: [Unreadable; 9] = [
+pub const REQUESTS: [Unreadable; 11] = [
     of(INVOKE, 11, &[DEST_ACTOR, 5], b"\0\0\0"),
     of(INVOKE, 11, &[DEST_FLAGS], b""),
     of(INVOKE, 11, &[DEST_ACTOR_FLAGS, 5, 0, TIMEOUT_BIT], b"\x01"),
+    of(INVOKE, 11, &[DEST_FLAGS, TIMEOUT_BIT], b"\0\0\0"),
     of(
         INVOKE,
         13,
@@ -73,6 +74,7 @@ pub const REQUESTS: [Unreadable; 9] = [
         b"question",
     ),
     of(INVOKE, 13, &[DEST_FLAGS, 0, DEST_FLAGS, 0], b""),
+    of(INVOKE, 13, &[DEST_FLAGS, TIMEOUT_BIT, 0, DEST_FLAGS], b""),
     of(INVOKE, 13, &[DEST_ACTOR, 5, 0, DEST_ACTOR_FLAGS], b""),
     of(INVOKE, 14, &[DIAGONAL], b"question"),
     of(INVOKE, 14, &[DEST_ACTOR, 5, 0, DIAGONAL_TARGETS], b""),

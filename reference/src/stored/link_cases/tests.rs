@@ -39,6 +39,11 @@ const PADDED_INPUT: (usize, u32) = (3_898_229, 0xDF50_539C);
 const PADDED_OUTPUT: (usize, u32) = (1_341_348, 0x457D_1A5C);
 const PADDED_LINES: usize = 72_486;
 
+/// And before a timeout of 0 was none.
+const CIPHERED_INPUT: (usize, u32) = (5_818_610, 0x708D_D3A0);
+const CIPHERED_OUTPUT: (usize, u32) = (1_968_573, 0xA1BB_55DE);
+const CIPHERED_LINES: usize = 112_162;
+
 #[test]
 fn the_base_stays_in_front() {
     let input = input();
@@ -69,8 +74,21 @@ fn padded_links_stay_behind_lowest_versions() {
     assert_eq!(input[PADDED_INPUT.0], SET_UP);
     let lines = |bytes: &[u8]| bytes.iter().filter(|byte| **byte == b'\n').count();
     assert_eq!(lines(&output[..PADDED_OUTPUT.0]), PADDED_LINES);
-    let new = lines(&output[PADDED_OUTPUT.0..]);
+    let new = lines(&output[PADDED_OUTPUT.0..CIPHERED_OUTPUT.0]);
     assert!((20_000..=40_000).contains(&new), "{new}");
+}
+
+#[test]
+fn ciphered_links_stay_behind_padded_ones() {
+    let (input, output) = (input(), output(&input()));
+    for (bytes, (size, sum)) in [(&input, CIPHERED_INPUT), (&output, CIPHERED_OUTPUT)] {
+        assert_eq!(CRC32.of(&bytes[..size]), sum);
+    }
+    assert_eq!(input[CIPHERED_INPUT.0], NEW);
+    let lines = |bytes: &[u8]| bytes.iter().filter(|byte| **byte == b'\n').count();
+    assert_eq!(lines(&output[..CIPHERED_OUTPUT.0]), CIPHERED_LINES);
+    let new = lines(&output[CIPHERED_OUTPUT.0..]);
+    assert!((100..=400).contains(&new), "{new}");
 }
 
 const KEY: [u8; 32] = *b"KEY! and behind it whatever else";

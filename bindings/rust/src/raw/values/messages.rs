@@ -48,6 +48,30 @@ fn the_flags_of_an_invoke_one_at_a_time() {
     assert_eq!(flags(&[0x54, 0x4c, 0x32, 0x29]), (false, false, true));
 }
 
+/// The flag says no more than the number.
+#[test]
+fn a_timeout_of_0_is_none() {
+    let timeout = |header: u32, actor: &[u8], field: u32| {
+        let mask_and_field = [1 << 23, field].map(u32::to_le_bytes).concat();
+        let header = header.to_le_bytes();
+        let body = [
+            &[1, 0, 0, 0, 0, 0, 0, 0],
+            &header[..],
+            actor,
+            &mask_and_field,
+        ]
+        .concat();
+        let message = read(true, INVOKE, &body);
+        assert_eq!((message.kind, message.at), (1, body.len()));
+        (message.hastimeout, message.timeout)
+    };
+    for field in [0, 1, 255, 256, 1 << 16, 1 << 31, u32::MAX] {
+        let expected = (field != 0, field);
+        assert_eq!(timeout(0xe352_035e, &[], field), expected);
+        assert_eq!(timeout(0xf0a5_acf7, &[5; 8], field), expected);
+    }
+}
+
 #[test]
 fn every_field_of_an_error_and_of_a_refusal() {
     let mut body = (-1_i64).to_le_bytes().to_vec();

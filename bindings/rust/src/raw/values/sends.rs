@@ -120,6 +120,36 @@ fn the_flags_of_an_invoke_one_at_a_time() {
     assert_eq!(size(false, false, true), 28);
 }
 
+/// The same bytes as without one, into as little room, and the same link.
+#[test]
+fn a_timeout_of_0_is_none() {
+    for (hasactor, tl2) in [(false, false), (false, true), (true, false), (true, true)] {
+        let sent = |hastimeout, timeout, room: usize| {
+            let mut link = Link {
+                stage: 4,
+                ..link(false, true)
+            };
+            let outgoing = Outgoing {
+                kind: INVOKE,
+                hasactor,
+                hastimeout,
+                timeout,
+                tl2,
+                ..ALL
+            };
+            let mut buf = [0xee; 100];
+            let answer = send(&mut link, &mut buf[..room], b"payload", outgoing);
+            (answer, buf, link)
+        };
+        let none = sent(false, 0, 100);
+        let size = none.0.size;
+        for room in [100, size, size - 1, 0] {
+            assert_eq!(sent(true, 0, room), sent(false, 0, room));
+        }
+        assert!(sent(true, 1, 100).0.size > size);
+    }
+}
+
 #[test]
 fn result_takes_number_and_code() {
     let (body, _) = sent(true, 4, RESULT, b"bad");

@@ -1,6 +1,6 @@
 -- `message_out::step::message_step` meets its contract. Assumes nothing.
 use native.Mathlib.Omega.{arith}
-use Rattle.packet.proofs.PaddingLaws.{tail-bound}
+use Rattle.packet_padding.proofs.PaddingLaws.{tail-bound}
 use Rattle.message_out.proofs.PlaceLaws.{told, size-is}
 use Rattle.message_out.proofs.MessageLaws.{early-step, refused-step, written-step}
 use borrow.Author.Needs.{needs}

@@ -2,7 +2,7 @@
 use native.Mathlib.Omega.{arith}
 use mathlib.Core.Path.{sym, _∙_}
 use lib.ListN.{length-take}
-use Rattle.packet.proofs.PaddingLaws.{tail-bound}
+use Rattle.packet_padding.proofs.PaddingLaws.{tail-bound}
 use Rattle.packet_head.proofs.HeadLaws.{long-enough}
 use Rattle.packet_in.specs.Frame.{wholeOf, rowsOf}
 use borrow.Author.Tests.{eq-eqb, le-ltb, lt-ltb, ne-eqb}

@@ -3,7 +3,7 @@ use native.Mathlib.Omega.{arith}
 use borrow.Author.Tests.{lt-ltb, le-ltb}
 use denote.Ref.{now}
 use lib.ListN.{length-take}
-use Rattle.packet.proofs.PaddingLaws.{tail-bound}
+use Rattle.packet_padding.proofs.PaddingLaws.{tail-bound}
 use Rattle.packet_out.specs.Packet.{sealedOf}
 use Rattle.packet_out.proofs.SealLaws.{room, sealed}
 use borrow.Author.Needs.{needs}

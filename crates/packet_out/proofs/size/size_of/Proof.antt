@@ -1,6 +1,6 @@
 -- `packet_out::size::size_of` meets its contract. Assumes nothing.
 use native.Mathlib.Omega.{arith}
-use Rattle.packet.proofs.PaddingLaws.{tail-bound}
+use Rattle.packet_padding.proofs.PaddingLaws.{tail-bound}
 use Rattle.packet_out.specs.Size.{sizeOf}
 use borrow.Author.Needs.{needs}
 use Rattle.packet_out.proofs.size.size_of.Statement.{statement}

@@ -1,0 +1,2 @@
+-- Definitions of crate invoke_headers: an invoke's headers.
+pub mod Headers

@@ -1,0 +1,2 @@
+-- Laws of crate invoke_in: the invoke reader.
+pub mod InvokeLaws

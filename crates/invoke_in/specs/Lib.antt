@@ -1,0 +1,2 @@
+-- Definitions of crate invoke_in: the invoke reader.
+pub mod ReadInvoke

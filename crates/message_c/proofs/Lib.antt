@@ -1,0 +1,2 @@
+-- Laws of crate message_c: the message reader for C.
+pub mod Timeouts

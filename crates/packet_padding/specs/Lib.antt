@@ -1,0 +1,2 @@
+-- Definitions of crate packet_padding: the padded profile.
+pub mod Padding
