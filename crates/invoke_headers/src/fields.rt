@@ -44,8 +44,10 @@ fn read_extra(s: &[u8], at: usize) -> Extra
         if room < 8 {
             return Extra::Refused(MESSAGE_CUT);
         }
+        // From a slice of its own four bytes, whose length need not be looked at again.
+        let field = at + 4;
         return Extra::Is {
-            timeout: Timeout::Ms(u32_at(s, at + 4)),
+            timeout: Timeout::Ms(u32_at(&s[field..field + 4], 0)),
             next: at + 8,
         };
     }

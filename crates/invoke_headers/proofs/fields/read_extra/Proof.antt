@@ -1,4 +1,9 @@
 -- `invoke_headers::read_extra` meets its contract. Assumes nothing.
+use mathlib.Core.Path.{ap, _∙_}
+use Prim.Native.Nat.{_+_}
+use native.Mathlib.Omega.{arith}
+use Rattle.wire.specs.Bytes.{le}
+use Rattle.wire.proofs.ByteLaws.{window-first}
 use Rattle.invoke_headers.specs.Headers.{readExtra}
 use borrow.Author.Tests.{eq-eqb, le-ltb, lt-ltb, ne-eqb}
 use borrow.Author.Needs.{needs}
@@ -36,14 +41,16 @@ returns-3 c =
 returns-4 : tie.Need-returns-4
 unfolding readExtra
 returns-4 c =
+    let a = c .before .before .before .before .before .before .before .before .before .args in
+    let field = c .u32-at2 .ensures ∙ ap le (window-first (a .s .now) (a .at + 4) 4 4 (omega arith)) in
     simp (
-      ← c .before .before .before .before .before .before .left .ensures,
-      le-ltb _ _ (c .before .before .before .before .before .if1 .left),
-      ← c .before .before .before .before .u32-at .ensures,
-      ne-eqb _ _ (c .before .before .before .if2 .left),
-      eq-eqb _ _ (c .before .before .if3 .taken),
-      le-ltb _ _ (c .before .if4 .left),
-      c .u32-at2 .ensures,
+      ← c .before .before .before .before .before .before .before .left .ensures,
+      le-ltb _ _ (c .before .before .before .before .before .before .if1 .left),
+      ← c .before .before .before .before .before .u32-at .ensures,
+      ne-eqb _ _ (c .before .before .before .before .if2 .left),
+      eq-eqb _ _ (c .before .before .before .if3 .taken),
+      le-ltb _ _ (c .before .before .if4 .left),
+      field,
     )
 
 returns-5 : tie.Need-returns-5
@@ -67,6 +74,10 @@ read-extra-spec =
     (λ c. search needs)
     returns-2
     returns-3
+    (λ c. search needs)
+    (λ c. search needs)
+    (λ c. search needs)
+    (λ c. search needs)
     (λ c. search needs)
     (λ c κs. search needs)
     (λ c. search needs)
