@@ -1,17 +1,29 @@
-//! The table's calls with the library, with the second program's table (two hash maps), and with what a user would write by
-//! hand: one hash map keyed by publisher and number. All take turns on the same events, in one run.
+//! The table's calls with the library, with the second program's table (two hash maps over slots), and with what a
+//! user would write by hand. All take turns on the same events, in one run.
 //!
-//! The library and the second program give the same answers, which is checked first. The hash map keeps no rule of room, does
-//! not look whether a front number is in flight, and walks over all requests for a cancel, a closed link or a lost publisher.
+//! First mixed traffic, beside one hash map keyed by publisher and number. It keeps no rule of room, does not look
+//! whether a front number is in flight, and walks over all requests for a cancel, a closed link or a lost
+//! publisher. Then pairs of calls at a number of requests in flight, beside two hash maps that keep every rule
+//! (two_maps.rs, pairs.rs).
+//!
+//! The library, the second program and the two hash maps give the same answers, which is checked first.
 
 use reference::event::Event;
+use reference::generator::Generator;
 use reference::table::Table as Second;
-use reference::traffic;
+use reference::traffic::{self, Traffic};
 use relay::{FrontNumber, PublisherNumber, Table, ALL_ENDS};
 use std::collections::HashMap;
 use std::convert::Infallible;
 use std::hint::black_box;
 use std::time::Instant;
+
+#[path = "pairs.rs"]
+mod pairs;
+#[path = "two_maps.rs"]
+mod two_maps;
+use pairs::Freed;
+use two_maps::TwoMaps;
 
 const EVENTS: u64 = 200_000;
 const ROUNDS: usize = 25;
@@ -42,15 +54,32 @@ fn ours(table: &mut Table, event: Event, ends: &mut [i64]) -> Answer {
     }
 }
 
+/// How many ends were written to the front of a slice, and their sum.
+fn summed(count: usize, ends: &[i64]) -> Answer {
+    (count as i64, ends[..2 * count].chunks_exact(2).map(|end| end[0] ^ end[1]).sum())
+}
+
 fn second(table: &mut Second, event: Event, ends: &mut [i64]) -> Answer {
     use reference::event::Answer::*;
     match event.call(table, ends) {
         Ok(Ask(number)) => (number, 0),
         Ok(Reply((place, number)) | Cancel((place, number))) => (i64::from(place), number),
-        Ok(Closed(count) | Lost(count)) => {
-            (count as i64, ends[..2 * count].chunks_exact(2).map(|end| end[0] ^ end[1]).sum())
-        }
+        Ok(Closed(count) | Lost(count)) => summed(count, ends),
         Err(refusal) => (-i64::from(refusal.number()), 0),
+    }
+}
+
+fn by_maps(table: &mut TwoMaps, event: Event, ends: &mut [i64]) -> Answer {
+    let refused = |number: u8| (-i64::from(number), 0);
+    let end = |(place, number): (u8, i64)| (i64::from(place), number);
+    match event {
+        Event::Ask(link, number, publisher) => {
+            table.ask(link, number, publisher).map_or_else(refused, |number| (number, 0))
+        }
+        Event::Reply(publisher, number) => table.reply(publisher, number).map_or_else(refused, end),
+        Event::Cancel(link, number) => table.cancel(link, number).map_or_else(refused, end),
+        Event::Closed(link) => table.closed(link, ends).map_or_else(refused, |count| summed(count, ends)),
+        Event::Lost(publisher) => table.lost(publisher, ends).map_or_else(refused, |count| summed(count, ends)),
     }
 }
 
@@ -115,31 +144,57 @@ fn time(events: &[Event], mut call: impl FnMut(Event) -> Answer) -> f64 {
     start.elapsed().as_nanos() as f64 / events.len() as f64
 }
 
-fn main() {
-    let events = events();
-    let fresh = || Table::new(PublisherNumber(1)).expect("1 is a first number");
-    let fresh_second = || Second::fresh(1).expect("1 is a first number");
-    let (mut a, mut b) = ([0; ALL_ENDS], [0; ALL_ENDS]);
-    let (mut table, mut other) = (fresh(), fresh_second());
-    for &event in &events {
-        assert_eq!(ours(&mut table, event, &mut a), second(&mut other, event, &mut b), "{event:?}");
+/// Traffic of four kinds, with drops into slices that are too short, from a first number that soon wraps.
+fn check(first: i64) {
+    let mut generator = Generator::new(7);
+    for profile in [traffic::STEADY, traffic::CROWDED, traffic::MIXED, traffic::ROUGH] {
+        let mut table = Table::new(PublisherNumber(first)).expect("a first number");
+        let mut other = Second::fresh(first).expect("a first number");
+        let mut maps = TwoMaps::new(first).expect("a first number");
+        let mut traffic = Traffic::new(generator.draw(), profile);
+        for _ in 0..EVENTS {
+            let event = traffic.event(&other);
+            let room = generator.pick(&[ALL_ENDS, ALL_ENDS, ALL_ENDS, 16, 3, 0]);
+            let mut ends = [[-1; ALL_ENDS]; 3];
+            let answers = [
+                ours(&mut table, event, &mut ends[0][..room]),
+                second(&mut other, event, &mut ends[1][..room]),
+                by_maps(&mut maps, event, &mut ends[2][..room]),
+            ];
+            assert_eq!((answers[0], ends[0]), (answers[1], ends[1]), "{event:?}");
+            assert_eq!((answers[0], ends[0]), (answers[2], ends[2]), "{event:?}");
+        }
     }
+}
+
+/// Rounds of mixed traffic by turns, sorted: ours, the second program, one hash map.
+fn mixed(events: &[Event]) -> [Vec<f64>; 3] {
+    let mut ends = [0; ALL_ENDS];
     let mut rounds = [const { Vec::new() }; 3];
     for _ in 0..ROUNDS {
-        let mut table = fresh();
-        rounds[0].push(time(&events, |event| ours(&mut table, event, &mut a)));
-        let mut table = fresh_second();
-        rounds[1].push(time(&events, |event| second(&mut table, event, &mut b)));
+        let mut table = Table::new(PublisherNumber(1)).expect("1 is a first number");
+        rounds[0].push(time(events, |event| ours(&mut table, event, &mut ends)));
+        let mut table = Second::fresh(1).expect("1 is a first number");
+        rounds[1].push(time(events, |event| second(&mut table, event, &mut ends)));
         let mut table = Plain::default();
-        rounds[2].push(time(&events, |event| plain(&mut table, event)));
+        rounds[2].push(time(events, |event| plain(&mut table, event)));
     }
     for rounds in &mut rounds {
         rounds.sort_by(f64::total_cmp);
     }
+    rounds
+}
+
+fn main() {
+    check(1);
+    check(i64::MAX - 1000);
+    let rounds = mixed(&events());
     println!("\nNanoseconds a call of the table, and how many times ours is as fast.\n");
     println!("| calls | relay_ask, relay_reply, .. | second program | one hash map |\n|---|---|---|---|");
     for (name, at) in [("shortest", 0), ("median", ROUNDS / 2)] {
         let [ours, second, plain] = [0, 1, 2].map(|i: usize| rounds[i][at]);
         println!("| {name} | {ours:.0} | {second:.0} ({:.2}) | {plain:.0} ({:.2}) |", second / ours, plain / ours);
     }
+    pairs::print(Freed::Oldest);
+    pairs::print(Freed::Random);
 }

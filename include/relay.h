@@ -427,29 +427,29 @@ typedef struct relay_publisher_number {
     int64_t value;
 } relay_publisher_number;
 
-/* A request in flight (document 01: a ticket). */
-typedef struct relay_request {
-    relay_front_number front;
-    relay_publisher_number number;
-    uint8_t link;
-    uint8_t publisher;
-} relay_request;
-
-/* A table, for its calls alone: made by relay_fresh, lent to each call, and updated where it stands. Front links are 0
- * to 31, publishers 0 to 7. */
+/* A table of at most 64 requests in flight: declared by the caller, made by relay_fresh, lent to each call, and updated
+ * where it stands. Front links are 0 to 31, publishers 0 to 7. A request takes the lowest free slot, 0 to 63, and stays
+ * in it until it is freed.
+ *
+ * Only the calls write it; a driver may read it. It has no pointers, nothing is allocated for it and nothing is to be
+ * released: a copy by assignment is a table of its own. Its members belong to this version of the library: a table is
+ * not kept in a file, nor lent to another version. */
 typedef struct relay_table {
-    relay_request requests[64]; /* the first count are in flight, oldest accepted first */
-    size_t count;
-    relay_publisher_number next[8];
+    uint64_t masks[9];    /* sets of slots, where bit i is slot i. 0: the used ones; 1 + p: those of publisher p, whose
+                             ones are its load */
+    int64_t numbers[136]; /* i: the front number in slot i; 64 + i: its publisher number; 128 + p: from where on
+                             publisher p's next number is looked for */
+    uint8_t places[128];  /* i: the link in slot i; 64 + i: its publisher */
+    uint8_t order[64];    /* i: slot i's place in the order of acceptance, 0 the oldest. What a slot that is not used
+                             has here, in numbers and in places means nothing */
 } relay_table;
 
-/* In the answers below, refusal is 0 where the call was not refused; the other fields are 0 where it was. A refused
- * call leaves the table, and the slice that it is lent, as they were. */
+/* Numbers in a slice that relay_closed and relay_lost never find too short: two for each of 64 requests. */
+#define RELAY_ALL_ENDS 128
 
-typedef struct relay_started {
-    uint8_t refusal;
-    relay_table table; /* after a refusal: a table that starts at 1 */
-} relay_started;
+/* In the answers below, refusal is 0 where the call was not refused; the other fields are 0 where it was. A refused
+ * call leaves the table, and the slice that it is lent, as they were. Where several refusals apply, the answer is the
+ * one that is named first. */
 
 typedef struct relay_asked {
     uint8_t refusal;
@@ -473,24 +473,58 @@ typedef struct relay_dropped {
     size_t count;
 } relay_dropped;
 
-/* An empty table; first, at least 1, is the first number of every publisher. */
-relay_started relay_fresh(relay_publisher_number first);
+/* What the archive has: the same calls on the four members of one table, each lent by itself. A program has no use for
+ * them; it makes the calls below, which lend a table's members where they stand and copy none. */
+uint8_t relay_fresh_lent(uint64_t masks[9], int64_t numbers[136], relay_publisher_number first);
+relay_asked relay_ask_lent(uint64_t masks[9], int64_t numbers[136], uint8_t places[128], uint8_t order[64],
+                           uint8_t link, relay_front_number number, uint8_t publisher);
+relay_replied relay_reply_lent(uint64_t masks[9], const int64_t numbers[136], const uint8_t places[128],
+                               uint8_t order[64], uint8_t publisher, relay_publisher_number number);
+relay_cancelled relay_cancel_lent(uint64_t masks[9], const int64_t numbers[136], const uint8_t places[128],
+                                  uint8_t order[64], uint8_t link, relay_front_number number);
+relay_dropped relay_closed_lent(uint64_t masks[9], const int64_t numbers[136], const uint8_t places[128],
+                                uint8_t order[64], uint8_t link, int64_t *out, size_t n);
+relay_dropped relay_lost_lent(uint64_t masks[9], const int64_t numbers[136], const uint8_t places[128],
+                              uint8_t order[64], uint8_t publisher, int64_t *out, size_t n);
 
-/* Accepts a request; answers the number under which the publisher gets it. */
-relay_asked relay_ask(relay_table *table, uint8_t link, relay_front_number number, uint8_t publisher);
+/* Makes an empty table of whatever stands there; first is the first number of every publisher. Answers 0, or 30 for a
+ * first number below 1: all four members are then as they were, and what was no table before must not be used. */
+static inline uint8_t relay_fresh(relay_table *table, relay_publisher_number first) {
+    return relay_fresh_lent(table->masks, table->numbers, first);
+}
 
-/* Frees the request that a publisher replied to; answers its link and front number. */
-relay_replied relay_reply(relay_table *table, uint8_t publisher, relay_publisher_number number);
+/* Accepts a request; answers the number under which the publisher gets it, which is none that the publisher has in
+ * flight. Refused with 30 for a link or publisher out of range, 12 for a number of 0, 31 where the link has the number
+ * in flight, 32 where the publisher has 16 requests, and 33 where it has 4 or more and no room is left that is not kept
+ * for the 4 of another. */
+static inline relay_asked relay_ask(relay_table *table, uint8_t link, relay_front_number number, uint8_t publisher) {
+    return relay_ask_lent(table->masks, table->numbers, table->places, table->order, link, number, publisher);
+}
 
-/* Frees the request that a front end cancelled; answers its publisher and publisher number. */
-relay_cancelled relay_cancel(relay_table *table, uint8_t link, relay_front_number number);
+/* Frees the request that a publisher replied to; answers its link and front number. Refused with 30 for a publisher out
+ * of range, 12 for a number of 0, and 34 where the publisher has no such request. */
+static inline relay_replied relay_reply(relay_table *table, uint8_t publisher, relay_publisher_number number) {
+    return relay_reply_lent(table->masks, table->numbers, table->places, table->order, publisher, number);
+}
+
+/* Frees the request that a front end cancelled; answers its publisher and publisher number. Refused with 30 for a link
+ * out of range, 12 for a number of 0, and 34 where the link has no such request. */
+static inline relay_cancelled relay_cancel(relay_table *table, uint8_t link, relay_front_number number) {
+    return relay_cancel_lent(table->masks, table->numbers, table->places, table->order, link, number);
+}
 
 /* A front link closed: frees all its requests and writes publisher and publisher number of each to the front of out,
- * oldest accepted first; out past them stays. Answers how many there were; 16 if out has not two numbers for each. */
-relay_dropped relay_closed(relay_table *table, uint8_t link, int64_t *out, size_t n);
+ * oldest accepted first; out past them stays. Answers how many there were, which may be 0. Refused with 30 for a link
+ * out of range, and 16 where out, n numbers long, has not two for each: RELAY_ALL_ENDS always do. */
+static inline relay_dropped relay_closed(relay_table *table, uint8_t link, int64_t *out, size_t n) {
+    return relay_closed_lent(table->masks, table->numbers, table->places, table->order, link, out, n);
+}
 
-/* A publisher is lost: the same for its requests, with link and front number of each. */
-relay_dropped relay_lost(relay_table *table, uint8_t publisher, int64_t *out, size_t n);
+/* A publisher is lost: the same for its requests, with link and front number of each. Refused with 30 for a publisher
+ * out of range, and 16. Its numbers go on where they were. */
+static inline relay_dropped relay_lost(relay_table *table, uint8_t publisher, int64_t *out, size_t n) {
+    return relay_lost_lent(table->masks, table->numbers, table->places, table->order, publisher, out, n);
+}
 
 #ifdef __cplusplus
 }

@@ -47,7 +47,10 @@ int main(void) {
            (long long)message.actor, (int)message.len, (const char *)buf + body.at + message.at);
 
     relay_publisher_number first = {1};
-    relay_table table = relay_fresh(first).table;
+    relay_table table;
+    if (relay_fresh(&table, first) != 0) {
+        return 1;
+    }
     relay_front_number number = {message.number};
     relay_asked asked = relay_ask(&table, 3, number, 0);
     printf("asked: publisher 0 gets it as %lld\n", (long long)asked.number.value);
@@ -57,8 +60,8 @@ int main(void) {
     printf("cancelled too late: %d\n", late.refusal);
 
     relay_ask(&table, 4, number, 7);
-    int64_t ends[2];
-    relay_dropped dropped = relay_lost(&table, 7, ends, 2);
+    int64_t ends[RELAY_ALL_ENDS];
+    relay_dropped dropped = relay_lost(&table, 7, ends, RELAY_ALL_ENDS);
     printf("lost: %zu, link %lld, number %lld\n", dropped.count, (long long)ends[0], (long long)ends[1]);
     return 0;
 }

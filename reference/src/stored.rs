@@ -58,6 +58,7 @@ mod records;
 mod walk_cases;
 mod walk_long;
 mod walk_scripts;
+mod walk_slots;
 mod wire_cases;
 
 use std::fs;

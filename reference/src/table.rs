@@ -4,7 +4,7 @@
 //! number gives the order of acceptance, which closed and lost go by.
 
 #[cfg(test)]
-mod book;
+pub(crate) mod book;
 #[cfg(test)]
 mod tests;
 

@@ -10,7 +10,8 @@ pub const ALL_ENDS: usize = 2 * 64;
 
 /// Which front link asked which publisher, under which numbers.
 ///
-/// A refused call leaves the table as it was.
+/// A call works where the table stands and copies none of it; a refused one
+/// leaves it as it was.
 #[derive(Clone, Debug)]
 pub struct Table(raw::Table);
 
@@ -18,9 +19,14 @@ impl Table {
     /// An empty table; `first`, at least 1, is the first number of every
     /// publisher.
     pub fn new(first: PublisherNumber) -> Result<Table, Refusal> {
-        // SAFETY: all is passed by value.
-        let started = unsafe { raw::relay_fresh(first) };
-        Refusal::unless(started.refusal, Table(started.table))
+        let mut table = Table(raw::Table {
+            masks: [0; 9],
+            numbers: [0; 136],
+            places: [0; 128],
+            order: [0; 64],
+        });
+        let refusal = raw::relay_fresh(&mut table.0, first);
+        Refusal::unless(refusal, table)
     }
 
     /// Accepts a request; hands back the number under which the publisher is
@@ -31,8 +37,7 @@ impl Table {
         number: FrontNumber,
         publisher: u8,
     ) -> Result<PublisherNumber, Refusal> {
-        // SAFETY: the table is borrowed.
-        let asked = unsafe { raw::relay_ask(&mut self.0, link, number, publisher) };
+        let asked = raw::relay_ask(&mut self.0, link, number, publisher);
         Refusal::unless(asked.refusal, asked.number)
     }
 
@@ -43,8 +48,7 @@ impl Table {
         publisher: u8,
         number: PublisherNumber,
     ) -> Result<(u8, FrontNumber), Refusal> {
-        // SAFETY: the table is borrowed.
-        let replied = unsafe { raw::relay_reply(&mut self.0, publisher, number) };
+        let replied = raw::relay_reply(&mut self.0, publisher, number);
         Refusal::unless(replied.refusal, (replied.link, replied.number))
     }
 
@@ -55,8 +59,7 @@ impl Table {
         link: u8,
         number: FrontNumber,
     ) -> Result<(u8, PublisherNumber), Refusal> {
-        // SAFETY: the table is borrowed.
-        let cancelled = unsafe { raw::relay_cancel(&mut self.0, link, number) };
+        let cancelled = raw::relay_cancel(&mut self.0, link, number);
         Refusal::unless(cancelled.refusal, (cancelled.publisher, cancelled.number))
     }
 
@@ -68,8 +71,7 @@ impl Table {
         link: u8,
         out: &'a mut [i64],
     ) -> Result<impl ExactSizeIterator<Item = (u8, PublisherNumber)> + 'a, Refusal> {
-        // SAFETY: the table is borrowed, the pointer and length are a slice's.
-        let dropped = unsafe { raw::relay_closed(&mut self.0, link, out.as_mut_ptr(), out.len()) };
+        let dropped = raw::relay_closed(&mut self.0, link, out);
         Refusal::unless(dropped.refusal, ends(out, dropped.count, PublisherNumber))
     }
 
@@ -80,9 +82,7 @@ impl Table {
         publisher: u8,
         out: &'a mut [i64],
     ) -> Result<impl ExactSizeIterator<Item = (u8, FrontNumber)> + 'a, Refusal> {
-        // SAFETY: the table is borrowed, the pointer and length are a slice's.
-        let dropped =
-            unsafe { raw::relay_lost(&mut self.0, publisher, out.as_mut_ptr(), out.len()) };
+        let dropped = raw::relay_lost(&mut self.0, publisher, out);
         Refusal::unless(dropped.refusal, ends(out, dropped.count, FrontNumber))
     }
 

@@ -2,20 +2,14 @@
 -- Assumes nothing.
 use Prim.Native.Nat.{ℕ}
 use lib.IntN.{pos}
-use Rattle.inflight.specs.declared.Started.{Started}
 use Rattle.inflight.specs.declared.FreshAnswer as F
 use Rattle.inflight.specs.declared.AskAnswer as A
-use Rattle.ask_c.specs.declared.RelayStarted.{RelayStarted}
 use Rattle.ask_c.specs.declared.RelayAsked.{RelayAsked}
 
 -- a refusal's number, or 0
 abbrev pub startedRefusal : F.FreshAnswer → ℕ
 startedRefusal F.the-variants.Ready = 0
 startedRefusal (F.the-variants.Refused k) = k
-
--- "a fresh table takes one first publisher number, at least 1": the table, and 30 if it is not
-unfoldable pub startedFields : Started → RelayStarted
-startedFields s = record { refusal = startedRefusal (s .answer); table = s .table }
 
 -- ask: "accepted with a publisher number"
 unfoldable pub askFields : A.AskAnswer → RelayAsked

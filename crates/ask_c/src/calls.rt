@@ -1,15 +1,12 @@
 // A fresh table, and ask.
-use crate::AskStep;
 use crate::RelayAsked;
-use crate::RelayStarted;
 use inflight::AskAnswer;
 use inflight::FreshAnswer;
 use inflight::FrontNumber;
 use inflight::PublisherNumber;
-use inflight::Table;
 ghost use mathlib.Core.Path.{_≡_};
-ghost use Rattle.inflight.specs.Tables.{freshOf, askOf};
-ghost use Rattle.ask_c.specs.AskFields.{startedRefusal, startedFields, askFields};
+ghost use Rattle.inflight.specs.Tables.{tableOf, freshAnswer, freshMasks, freshNumbers, askOf};
+ghost use Rattle.ask_c.specs.AskFields.{startedRefusal, askFields};
 
 // The answers as numbers.
 fn started_refusal(a: FreshAnswer) -> u8
@@ -36,46 +33,39 @@ fn ask_fields(a: AskAnswer) -> RelayAsked
     }
 }
 
-// The call by value, its answer as numbers.
-fn ask_step(t: Table, link: u8, number: FrontNumber, publisher: u8) -> AskStep
-    ensures { λ r. ⌜ (r .answer ≡ askFields (askOf t link number publisher .answer)) × (r .table ≡ askOf t link number publisher .table) ⌝ }
-{
-    let a = inflight_ask::ask(t, link, number, publisher);
-    let after = a.table;
-    let answer = a.answer;
-    AskStep {
-        table: after,
-        answer: ask_fields(answer),
-    }
-}
-
-// A table that starts at a first publisher number.
+// A table starts at a first publisher number: a refusal's number, or 0. `places` and `order` stay in any case.
 #[no_mangle]
-pub extern "C" fn relay_fresh(first: PublisherNumber) -> RelayStarted
-    ensures { λ r. ⌜ r ≡ startedFields (freshOf first) ⌝ }
+pub extern "C" fn relay_fresh_lent(
+    masks: &mut [u64; 9],
+    numbers: &mut [i64; 136],
+    first: PublisherNumber,
+) -> u8
+    ensures { λ r. ⌜ (r ≡ startedRefusal (freshAnswer first))
+        × (now (masks .exit) ≡ freshMasks first (now (masks .entry)))
+        × (now (numbers .exit) ≡ freshNumbers first (now (numbers .entry))) ⌝ }
 {
-    let s = inflight::fresh(first);
-    let after = s.table;
-    let answer = s.answer;
-    RelayStarted {
-        refusal: started_refusal(answer),
-        table: after,
-    }
+    let a = inflight::fresh(masks, numbers, first);
+    started_refusal(a)
 }
 
 // Ask (link, number, publisher): accepted with a publisher number, or refused.
 #[no_mangle]
-pub extern "C" fn relay_ask(
-    table: &mut Table,
+pub extern "C" fn relay_ask_lent(
+    masks: &mut [u64; 9],
+    numbers: &mut [i64; 136],
+    places: &mut [u8; 128],
+    order: &mut [u8; 64],
     link: u8,
     number: FrontNumber,
     publisher: u8,
 ) -> RelayAsked
-    ensures { λ r. ⌜ (r ≡ askFields (askOf (now (table .entry)) link number publisher .answer))
-        × (now (table .exit) ≡ askOf (now (table .entry)) link number publisher .table) ⌝ }
+    ensures { λ r. ⌜ (r ≡ askFields (askOf
+        (tableOf (now (masks .entry)) (now (numbers .entry)) (now (places .entry))
+        (now (order .entry))) link number publisher .answer))
+        × (tableOf (now (masks .exit)) (now (numbers .exit)) (now (places .exit)) (now (order .exit)) ≡ askOf
+        (tableOf (now (masks .entry)) (now (numbers .entry)) (now (places .entry))
+        (now (order .entry))) link number publisher .table) ⌝ }
 {
-    let t = *table;
-    let r = ask_step(t, link, number, publisher);
-    *table = r.table;
-    r.answer
+    let a = inflight_ask::ask(masks, numbers, places, order, link, number, publisher);
+    ask_fields(a)
 }

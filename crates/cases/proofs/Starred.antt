@@ -3,7 +3,8 @@
 use mathlib.Core.Path.{_≡_, refl, ap, sym, _∙_}
 use mathlib.Core.Bool.{true, false}
 use mathlib.Core.List.{List, [], _∷_, _++_, append-nil}
-use Prim.Native.Nat.{ℕ, _+_, _<_, _^_}
+use Prim.Native.Nat.{ℕ, _+_, _≤_, _<_, _^_}
+use native.Mathlib.Omega.{arith}
 use lib.IntN.{pos}
 use native.Mathlib.Nat.{add-zero}
 use lib.ListN.{length, replicate}
@@ -41,16 +42,25 @@ use Rattle.send_rules.specs.Control.{sendRefusal, controlAnswer, controlStep}
 use Rattle.nonce_out.specs.Nonce.{nonceHead, nonceBody}
 use Rattle.keep_alive_out.specs.KeepAlive.{pingStep}
 use Rattle.inflight.specs.Numbers.{same, after}
-use Rattle.inflight.specs.Matching.{matches, matching, without, sumBelow, nextFree}
-use Rattle.inflight.specs.Model.{askRefusal, accept, takeRefusal}
-use Rattle.inflight.specs.Tables.{inFlight, store, emptyTable, freshOf, askRefusalOf, askOf, takenOf, cancelOf}
-use Rattle.inflight.specs.Calls.{cancel, tableAt}
+use Rattle.inflight.specs.Matching.{matches, matching, without, load, sumBelow, nextFree}
+use Rattle.inflight.specs.Model.{Model, empty, askRefusal, accept, askAnswer, takeRefusal, taken}
+use Rattle.inflight.specs.Model as M
+use Rattle.inflight.specs.Tables.{Table, Sized, loadOf, freshOf}
+use Rattle.inflight.specs.Calls.{Call, Heard, tableAt, modelAt}
+use Rattle.inflight.specs.Calls as H
+use Rattle.inflight.specs.declared.AskAnswer.{AskAnswer}
+use Rattle.inflight.specs.declared.AskAnswer.the-variants as A
+use Rattle.inflight_model.proofs.Invariant.{Ranged}
+use Rattle.inflight_tied.proofs.Tied.{modelOf}
+use Rattle.inflight_tied.proofs.Loads.{load-ones}
+use Rattle.inflight_tied.proofs.Simulated.{Good, same-call, stays, fresh-good, fresh-model}
 use Rattle.pair.specs.Awaits.{Awaits}
 use Rattle.pair.proofs.SumLaws.{small-append}
 use Rattle.pair.proofs.RoundTrip.{received, body-refused}
 use Rattle.pair.proofs.NoncePasses.{small-zeros, small-nonce}
-use Rattle.cases.specs.Outcome.{refused, packet, loads, accepted, ofArrival, Holds, AllHold}
-use Rattle.cases.specs.Cases.{side, our, inOpening, nonce, timed, asked, loadsOf, asks, filled, fuller}
+use Rattle.cases.specs.Outcome.{Outcome, refused, packet, loads, accepted, ofArrival, ofAsk, Holds, AllHold}
+use Rattle.cases.specs.Cases.{side, our, inOpening, nonce, timed, zeros, asked, loadsOf, asks, filling}
+use Rattle.cases.specs.Cases.{filled, fuller}
 use Rattle.cases.specs.Cases.{length16, length15, length1023, length1024, numberSent, numberReceived, clock30Behind, clock30Ahead, clock31Ahead, textExample, actorOnce, actorTwice, actorAgain, loadsFilled, thirdRefused, fourthAccepted, load16, loadsFuller, fifthRefused, fifthAccepted, markerEnds, starredCases, otherCases}
 
 -- ---- a Nonce, in the first packet
@@ -144,34 +154,154 @@ actor-again : Holds actorAgain
 unfolding actorAgain le requestKind kindOf readExtra flagsOf actorOf bothOf nextOf headersFrom readInvoke partOf toServer readMessage
 actor-again = refl
 
--- those on loads, written out: a table is computed here, and not where a row is opened
+-- ---- those on loads: the table answers as the model, and the model computes
+
+-- a table that is good reads as a model: so it does after some calls
+record Reads (w : Table) (m : Model) : Type 0 where
+  good : Good w
+  model : modelOf w ≡ m
+
+sized : Sized zeros
+sized = record { masks = refl; numbers = refl; places = refl; order = refl }
+
+ranged : Ranged (record { 0 = pos 1 })
+ranged = record { at = 1; is = refl; low = lit< tt; high = lit≤ }
+  where
+    lit≤ : 1 ≤ 9223372036854775807
+    lit≤ = omega arith
+
+fresh-reads : Reads (freshOf zeros (record { 0 = pos 1 }) .table) (empty (record { 0 = pos 1 }))
+fresh-reads =
+    record {
+      good = fresh-good zeros (record { 0 = pos 1 }) sized refl ranged;
+      model = fresh-model zeros (record { 0 = pos 1 }) sized refl;
+    }
+
+reads-at : (w : Table) (m : Model) → Reads w m → (cs : List Call) → Reads (tableAt w cs) (modelAt m cs)
+reads-at w m r cs =
+    let s = stays cs w (r .good) in
+    record { good = s .good; model = s .model ∙ ap (λ (x : Model). modelAt x cs) (r .model) }
+
+answerOf : Heard → AskAnswer
+answerOf (H.asked a) = a
+answerOf (H.replied a) = A.Refused 0
+answerOf (H.cancelled a) = A.Refused 0
+answerOf (H.dropped a out) = A.Refused 0
+
+asked-as : (w : Table) (m : Model) → Reads w m → (p n : ℕ)
+    → asked w p n ≡ ofAsk (askAnswer m p (record { 0 = pos n }) p)
+unfolding answerOf
+asked-as w m r p n =
+    ap (λ (h : Heard). ofAsk (answerOf h)) (same-call w (H.ask p (record { 0 = pos n }) p) (r .good) .answer)
+    ∙ ap (λ (x : Model). ofAsk (askAnswer x p (record { 0 = pos n }) p)) (r .model)
+
+abbrev modelLoads : Model → Outcome
+modelLoads m =
+    loads (
+    load (m .requests) 0 ∷
+    load (m .requests) 1 ∷
+    load (m .requests) 2 ∷
+    load (m .requests) 3 ∷
+    load (m .requests) 4 ∷
+    load (m .requests) 5 ∷
+    load (m .requests) 6 ∷
+    load (m .requests) 7 ∷
+    []
+    )
+
+loads-as : (w : Table) (m : Model) → Reads w m → loadsOf w ≡ modelLoads m
+loads-as w m r =
+    let l : ((p : ℕ) → p < 8 → loadOf (w .masks) p ≡ load (modelOf w .requests) p) =
+    load-ones w (r .good .kept .tied) in
+    rw (
+      l 0 (lit< tt),
+      l 1 (lit< tt),
+      l 2 (lit< tt),
+      l 3 (lit< tt),
+      l 4 (lit< tt),
+      l 5 (lit< tt),
+      l 6 (lit< tt),
+      l 7 (lit< tt),
+    )
+    (ap modelLoads (r .model))
+
+-- the models of `filled` and of `fuller`
+unfoldable filledModel : Model
+filledModel = modelAt (empty (record { 0 = pos 1 })) filling
+
+unfoldable fullerModel : Model
+fullerModel = modelAt filledModel (asks 3 4)
+
+filled-reads : Reads filled filledModel
+unfolding filled filledModel
+filled-reads =
+    reads-at (freshOf zeros (record { 0 = pos 1 }) .table) (empty (record { 0 = pos 1 })) fresh-reads filling
+
+fuller-reads : Reads fuller fullerModel
+unfolding fuller fullerModel
+fuller-reads = reads-at filled filledModel filled-reads (asks 3 4)
+
+filled-loads : modelLoads filledModel ≡ loads (16 ∷ 16 ∷ 12 ∷ 0 ∷ 0 ∷ 0 ∷ 0 ∷ 0 ∷ [])
+unfolding filledModel same after matches matching without sumBelow nextFree askRefusal accept askAnswer M.ask empty
+    modelAt asks
+filled-loads = refl
+
 loads-filled : loadsOf filled ≡ loads (16 ∷ 16 ∷ 12 ∷ 0 ∷ 0 ∷ 0 ∷ 0 ∷ 0 ∷ [])
-unfolding same after matches matching without sumBelow nextFree askRefusal accept inFlight store emptyTable freshOf askRefusalOf askOf tableAt asks filled
-loads-filled = refl
+loads-filled = loads-as filled filledModel filled-reads ∙ filled-loads
+
+third-model : ofAsk (askAnswer filledModel 2 (record { 0 = pos 13 }) 2) ≡ refused 33
+unfolding filledModel same after matches matching without sumBelow nextFree askRefusal accept askAnswer M.ask empty
+    modelAt asks
+third-model = refl
 
 third-refused : asked filled 2 13 ≡ refused 33
-unfolding same after matches matching without sumBelow nextFree askRefusal accept inFlight store emptyTable freshOf askRefusalOf askOf tableAt asks filled
-third-refused = refl
+third-refused = asked-as filled filledModel filled-reads 2 13 ∙ third-model
+
+fourth-model : ofAsk (askAnswer filledModel 3 (record { 0 = pos 1 }) 3) ≡ accepted (pos 1)
+unfolding filledModel same after matches matching without sumBelow nextFree askRefusal accept askAnswer M.ask empty
+    modelAt asks
+fourth-model = refl
 
 fourth-accepted : asked filled 3 1 ≡ accepted (pos 1)
-unfolding same after matches matching without sumBelow nextFree askRefusal accept inFlight store emptyTable freshOf askRefusalOf askOf tableAt asks filled
-fourth-accepted = refl
+fourth-accepted = asked-as filled filledModel filled-reads 3 1 ∙ fourth-model
+
+load-16-model : ofAsk (askAnswer filledModel 0 (record { 0 = pos 17 }) 0) ≡ refused 32
+unfolding filledModel same after matches matching without sumBelow nextFree askRefusal accept askAnswer M.ask empty
+    modelAt asks
+load-16-model = refl
 
 load-16 : asked filled 0 17 ≡ refused 32
-unfolding same after matches matching without sumBelow nextFree askRefusal accept inFlight store emptyTable freshOf askRefusalOf askOf tableAt asks filled
-load-16 = refl
+load-16 = asked-as filled filledModel filled-reads 0 17 ∙ load-16-model
+
+fuller-loads : modelLoads fullerModel ≡ loads (16 ∷ 16 ∷ 12 ∷ 4 ∷ 0 ∷ 0 ∷ 0 ∷ 0 ∷ [])
+unfolding fullerModel filledModel same after matches matching without sumBelow nextFree askRefusal accept askAnswer
+    M.ask empty modelAt asks
+fuller-loads = refl
 
 loads-fuller : loadsOf fuller ≡ loads (16 ∷ 16 ∷ 12 ∷ 4 ∷ 0 ∷ 0 ∷ 0 ∷ 0 ∷ [])
-unfolding fuller same after matches matching without sumBelow nextFree askRefusal accept inFlight store emptyTable freshOf askRefusalOf askOf tableAt asks filled
-loads-fuller = refl
+loads-fuller = loads-as fuller fullerModel fuller-reads ∙ fuller-loads
+
+fifth-model : ofAsk (askAnswer fullerModel 3 (record { 0 = pos 5 }) 3) ≡ refused 33
+unfolding fullerModel filledModel same after matches matching without sumBelow nextFree askRefusal accept askAnswer
+    M.ask empty modelAt asks
+fifth-model = refl
 
 fifth-refused : asked fuller 3 5 ≡ refused 33
-unfolding fuller same after matches matching without sumBelow nextFree askRefusal accept inFlight store emptyTable freshOf askRefusalOf askOf tableAt asks filled
-fifth-refused = refl
+fifth-refused = asked-as fuller fullerModel fuller-reads 3 5 ∙ fifth-model
 
-fifth-accepted : asked (tableAt fuller (cancel 0 (record { 0 = pos 1 }) ∷ [])) 3 5 ≡ accepted (pos 5)
-unfolding fuller takeRefusal takenOf cancelOf same after matches matching without sumBelow nextFree askRefusal accept inFlight store emptyTable freshOf askRefusalOf askOf tableAt asks filled
-fifth-accepted = refl
+cancelled-model :
+    ofAsk (askAnswer (modelAt fullerModel (H.cancel 0 (record { 0 = pos 1 }) ∷ [])) 3 (record { 0 = pos 5 }) 3)
+    ≡ accepted (pos 5)
+unfolding fullerModel filledModel takeRefusal taken same after matches matching without sumBelow nextFree askRefusal
+    accept askAnswer M.ask empty modelAt asks
+cancelled-model = refl
+
+fifth-accepted : asked (tableAt fuller (H.cancel 0 (record { 0 = pos 1 }) ∷ [])) 3 5 ≡ accepted (pos 5)
+fifth-accepted =
+    asked-as (tableAt fuller (H.cancel 0 (record { 0 = pos 1 }) ∷ []))
+    (modelAt fullerModel (H.cancel 0 (record { 0 = pos 1 }) ∷ []))
+    (reads-at fuller fullerModel fuller-reads (H.cancel 0 (record { 0 = pos 1 }) ∷ [])) 3 5
+    ∙ cancelled-model
 
 marker-ends : Holds markerEnds
 unfolding markerEnds le requestKind kindOf readExtra flagsOf actorOf bothOf nextOf headersFrom readInvoke partOf toServer readMessage

@@ -19,11 +19,9 @@ use Rattle.invoke.specs.declared.Actor as A
 use Rattle.invoke.specs.declared.Timeout as T
 use Rattle.message.specs.ReadMessage.{readMessage}
 use Rattle.message.specs.declared.Message.the-variants as M
-use Rattle.inflight.specs.Matching.{load}
-use Rattle.inflight.specs.Tables.{inFlight, askOf}
+use Rattle.inflight.specs.Tables.{Table, loadOf, askOf}
 use Rattle.inflight.specs.Tables as Tables
 use Rattle.inflight.specs.Calls.{Call, ask, cancel, tableAt}
-use Rattle.inflight.specs.declared.Table.{Table}
 use Rattle.cases.specs.Outcome.{Outcome, refused, packet, number, text, means, loads, accepted, ofArrival, ofText, ofMessage, ofAsk, Case}
 
 -- a row: what our definitions give is what document 01 says
@@ -102,9 +100,18 @@ unfoldable pub asks : ℕ → ℕ → List Call
 asks p zero = []
 asks p (suc n) = asks p n ++ ask p (record { 0 = pos (suc n) }) p ∷ []
 
--- a fresh table that starts at 1, after 16 asks for the first publisher, 16 for the second, 12 for the third
+-- a table that was never used
+abbrev pub zeros : Table
+zeros =
+    record { masks = replicate 9 0; numbers = replicate 136 (pos 0); places = replicate 128 0; order = replicate 64 0 }
+
+-- 16 asks for the first publisher, 16 for the second, 12 for the third
+abbrev pub filling : List Call
+filling = asks 0 16 ++ (asks 1 16 ++ asks 2 12)
+
+-- a fresh table that starts at 1, after those
 unfoldable pub filled : Table
-filled = tableAt (Tables.freshOf (record { 0 = pos 1 }) .table) (asks 0 16 ++ (asks 1 16 ++ asks 2 12))
+filled = tableAt (Tables.freshOf zeros (record { 0 = pos 1 }) .table) filling
 
 -- the same, after 4 asks more for the fourth
 unfoldable pub fuller : Table
@@ -114,18 +121,18 @@ fuller = tableAt filled (asks 3 4)
 abbrev pub asked : Table → ℕ → ℕ → Outcome
 asked t p n = ofAsk (askOf t p (record { 0 = pos n }) p .answer)
 
--- the loads of the eight publishers in a table
+-- the loads of the eight publishers in a table: the ones of their masks
 abbrev pub loadsOf : Table → Outcome
 loadsOf t =
     loads (
-    load (inFlight t) 0 ∷
-    load (inFlight t) 1 ∷
-    load (inFlight t) 2 ∷
-    load (inFlight t) 3 ∷
-    load (inFlight t) 4 ∷
-    load (inFlight t) 5 ∷
-    load (inFlight t) 6 ∷
-    load (inFlight t) 7 ∷
+    loadOf (t .masks) 0 ∷
+    loadOf (t .masks) 1 ∷
+    loadOf (t .masks) 2 ∷
+    loadOf (t .masks) 3 ∷
+    loadOf (t .masks) 4 ∷
+    loadOf (t .masks) 5 ∷
+    loadOf (t .masks) 6 ∷
+    loadOf (t .masks) 7 ∷
     []
     )
 

@@ -1,4 +1,5 @@
--- The answer of closed and lost as a struct of numbers, for C: "every refusal gives back its number alone". Assumes nothing.
+-- The answer of closed and lost as a struct of numbers, for C: "every refusal gives back its number alone". Assumes
+-- nothing.
 use Rattle.inflight.specs.declared.DropAnswer as D
 use Rattle.drops_c.specs.declared.RelayDropped.{RelayDropped}
 

@@ -14,7 +14,7 @@ use Rattle.inflight.specs.Numbers.{same}
 use Rattle.inflight.specs.Matching.{matching, load, capacityTaken}
 use Rattle.inflight.specs.Model.{Model, askRefusal}
 use Rattle.inflight.specs.declared.FrontNumber.{FrontNumber}
-use Rattle.inflight.specs.declared.Key.the-variants.{Cancel}
+use Rattle.inflight.specs.Requests.{Cancel}
 
 -- 31, where the link has a request of that number in flight
 pub ask-own : (m : Model) (l : ℕ) (n : FrontNumber) (p : ℕ) → l < 32 → p < 8 → same (n .0) (pos 0) ≡ false

@@ -2,3 +2,5 @@
 pub mod NumberLaws
 pub mod MatchLaws
 pub mod AskLaws
+pub mod MaskLaws
+pub mod OrderLaws

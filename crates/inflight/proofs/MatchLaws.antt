@@ -1,19 +1,17 @@
--- Laws on lists of requests that the proofs of several functions cite: one request more, and a table by its parts.
+-- Laws on lists of requests that the proofs of several functions cite: one request more.
 -- Assumes nothing.
-use mathlib.Core.Path.{_≡_, refl, sym, ap, _∙_}
-use Prim.Native.Nat.{ℕ, suc, _+_, _-_, _≤_, _<_}
+use mathlib.Core.Path.{_≡_, refl, ap, _∙_}
+use Prim.Native.Nat.{ℕ, _+_, _-_, _≤_, _<_}
 use native.Mathlib.Omega.{arith}
 use native.Mathlib.Numerals.{add-one}
 use mathlib.Core.Bool.{Bool, true, false}
-use mathlib.Core.List.{List, [], _∷_, _++_, append-assoc, append-nil}
-use lib.ListN.{length, take, drop, getD, set}
-use lib.Seq.{take-suc, drop-cons, set-at, take-add}
+use mathlib.Core.List.{List, [], _∷_, _++_, append-nil}
+use lib.ListN.{length, take, drop, getD}
+use lib.Seq.{take-suc, take-add}
 use Rattle.wire.specs.Choice.{pick}
 use Rattle.inflight.specs.Matching.{matches, matching, without}
-use Rattle.inflight.specs.declared.PublisherNumber.{PublisherNumber}
-use Rattle.inflight.specs.declared.Table.{Table}
-use Rattle.inflight.specs.declared.Request.{Request}
-use Rattle.inflight.specs.declared.Key.{Key}
+use Rattle.inflight.specs.Requests.{Request}
+use Rattle.inflight.specs.Requests.{Key}
 
 -- ---- the requests that a key matches, and the others, one request more
 
@@ -67,12 +65,3 @@ pub matching-from : (k : Key) (xs : List Request) (m n : ℕ) → m ≤ n
 matching-from k xs m n h =
     let e : n ≡ m + (n - m) = omega arith in
     ap (λ (i : ℕ). matching k (take i xs)) e ∙ rw (take-add m (n - m) xs) (matching-append k (take m xs) (take (n - m) (drop m xs)))
-
--- one more is written behind those that are written over the front of a list
-pub put-next : {A : Type 0} (os xs : List A) (j : ℕ) (e d : A) → length os ≡ j → j < length xs
-    → set (os ++ drop j xs) j e ≡ (os ++ e ∷ []) ++ drop (j + 1) xs
-put-next os xs j e d l h = rw (drop-cons xs j d h, set-at os (getD xs j d) (drop (suc j) xs) e j l, add-one j) (sym (append-assoc os (e ∷ []) (drop (suc j) xs)))
-
-pub table-eq : {xs ys : List Request} {m n : ℕ} {a b : List PublisherNumber} → xs ≡ ys → m ≡ n → a ≡ b
-    → _≡_ {A = Table} (record { requests = xs; count = m; next = a }) (record { requests = ys; count = n; next = b })
-table-eq p q r = rw (p, q, r)

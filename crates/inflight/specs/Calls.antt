@@ -8,8 +8,8 @@ use Rattle.inflight.specs.Model as M
 use Rattle.inflight.specs.Tables as T
 use Rattle.inflight.specs.declared.FrontNumber.{FrontNumber}
 use Rattle.inflight.specs.declared.PublisherNumber.{PublisherNumber}
-use Rattle.inflight.specs.declared.Table.{Table}
-use Rattle.inflight.specs.declared.Key.the-variants.{Closed, Lost}
+use Rattle.inflight.specs.Tables.{Table}
+use Rattle.inflight.specs.Requests.{Closed, Lost}
 use Rattle.inflight.specs.declared.AskAnswer.{AskAnswer}
 use Rattle.inflight.specs.declared.ReplyAnswer.{ReplyAnswer}
 use Rattle.inflight.specs.declared.CancelAnswer.{CancelAnswer}
@@ -35,8 +35,8 @@ abbrev pub tableHeard : Table → Call → Heard
 tableHeard t (ask l n p) = asked (T.askOf t l n p .answer)
 tableHeard t (reply p n) = replied (T.replyOf t p n .answer)
 tableHeard t (cancel l n) = cancelled (T.cancelOf t l n .answer)
-tableHeard t (closed l out) = dropped (T.closedOf t l out .answer) (T.closedSliceOf t l out)
-tableHeard t (lost p out) = dropped (T.lostOf t p out .answer) (T.lostSliceOf t p out)
+tableHeard t (closed l out) = dropped (T.closedOf t l out .answer) (T.closedOf t l out .slice)
+tableHeard t (lost p out) = dropped (T.lostOf t p out .answer) (T.lostOf t p out .slice)
 
 abbrev pub tableAfter : Table → Call → Table
 tableAfter t (ask l n p) = T.askOf t l n p .table

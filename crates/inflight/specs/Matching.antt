@@ -1,5 +1,5 @@
--- Lists of requests in flight (document 01: entries), oldest accepted first: which of them a key matches, loads and capacity, other ends.
--- Assumes nothing.
+-- Lists of requests in flight (document 01: entries), oldest accepted first: which of them a key matches, loads and
+-- capacity, other ends. Assumes nothing.
 use Prim.Native.Nat.{ℕ, zero, suc, _+_, max}
 use mathlib.Core.Bool.{Bool, _&&_}
 use mathlib.Core.List.{List, [], _∷_, _++_}
@@ -9,11 +9,11 @@ use lib.ListN.{length, drop}
 use Rattle.wire.specs.Choice.{pick}
 use Rattle.inflight.specs.Numbers.{same, after}
 use Rattle.inflight.specs.declared.PublisherNumber.{PublisherNumber}
-use Rattle.inflight.specs.declared.Request.{Request}
-use Rattle.inflight.specs.declared.Key.{Key}
-use Rattle.inflight.specs.declared.Key.the-variants.{Reply, Cancel, Closed, Lost}
+use Rattle.inflight.specs.Requests.{Request}
+use Rattle.inflight.specs.Requests.{Key}
+use Rattle.inflight.specs.Requests.{Reply, Cancel, Closed, Lost}
 
--- what stands in a place of a table that was never used
+-- what stands for a request where there is none
 abbrev pub blank : Request
 blank = record { link = 0; front = record { 0 = pos 0 }; publisher = 0; number = record { 0 = pos 0 } }
 

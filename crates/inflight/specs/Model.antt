@@ -1,6 +1,6 @@
--- The model is document 01's book. It is fed the calls' arguments alone, and shares with the table the types of requests, numbers and
--- answers. Each call has its refusal number (0: not refused), its answer, and the model after it; a refused call changes nothing.
--- Assumes nothing.
+-- The model is document 01's book. It is fed the calls' arguments alone, and shares with the table the types of
+-- requests, numbers and answers. Each call has its refusal number (0: not refused), its answer, and the model after
+-- it; a refused call changes nothing. Assumes nothing.
 use Prim.Native.Nat.{ℕ, _*_}
 use mathlib.Core.Bool.{Bool, not, _&&_}
 use mathlib.Core.List.{List, [], _∷_, _++_}
@@ -12,9 +12,9 @@ use Rattle.inflight.specs.Numbers.{same, after}
 use Rattle.inflight.specs.Matching.{matching, without, load, capacityTaken, nextFree, otherEnds, overFront, blank}
 use Rattle.inflight.specs.declared.FrontNumber.{FrontNumber}
 use Rattle.inflight.specs.declared.PublisherNumber.{PublisherNumber}
-use Rattle.inflight.specs.declared.Request.{Request}
-use Rattle.inflight.specs.declared.Key.{Key}
-use Rattle.inflight.specs.declared.Key.the-variants.{Reply, Cancel, Closed, Lost}
+use Rattle.inflight.specs.Requests.{Request}
+use Rattle.inflight.specs.Requests.{Key}
+use Rattle.inflight.specs.Requests.{Reply, Cancel, Closed, Lost}
 use Rattle.inflight.specs.declared.AskAnswer.{AskAnswer}
 use Rattle.inflight.specs.declared.AskAnswer.the-variants as A
 use Rattle.inflight.specs.declared.ReplyAnswer.{ReplyAnswer}
@@ -24,8 +24,8 @@ use Rattle.inflight.specs.declared.CancelAnswer.the-variants as C
 use Rattle.inflight.specs.declared.DropAnswer.{DropAnswer}
 use Rattle.inflight.specs.declared.DropAnswer.the-variants as D
 
--- "it keeps its entries in the order of acceptance, and each publisher's last number": here the number after the last, so that the first
--- number of a fresh table needs no rule of its own
+-- "it keeps its entries in the order of acceptance, and each publisher's last number": here the number after the
+-- last, so that the first number of a fresh table needs no rule of its own
 pub record Model : Type 0 where
   pub requests : List Request
   pub next : List PublisherNumber
@@ -47,7 +47,8 @@ none k es = eqb (length (matching k es)) 0
 
 -- ask: 30, 12, 31, 32, 33, and 0 where it is accepted.
 -- 30: link or publisher out of range. 12: the number is 0. 31: the link has that number in flight already.
--- 32: the publisher's load is 16 or more. 33: it is 4 or more, and the eight loads, each counted as at least 4, add up to 64
+-- 32: the publisher's load is 16 or more. 33: it is 4 or more, and the eight loads, each counted as at least 4, add
+-- up to 64
 unfoldable pub askRefusal : Model → ℕ → FrontNumber → ℕ → ℕ
 askRefusal m l n p =
     first
@@ -124,7 +125,8 @@ unfoldable pub dropAnswer : Model → Bool → Key → List ℤ → DropAnswer
 dropAnswer m range k out =
     pick (eqb (dropRefusal m range k out) 0) (D.Count (length (matching k (m .requests)))) (D.Refused (dropRefusal m range k out))
 
--- "write their other ends, oldest accepted first, two signed 64-bit numbers each, into a lent slice; what lies past them stays"
+-- "write their other ends, oldest accepted first, two signed 64-bit numbers each, into a lent slice; what lies past
+-- them stays"
 unfoldable pub dropSlice : Model → Bool → Key → List ℤ → List ℤ
 dropSlice m range k out = pick (eqb (dropRefusal m range k out) 0) (overFront (otherEnds k (matching k (m .requests))) out) out
 

@@ -1,103 +1,274 @@
--- What each call does on any table at all, also one that no fresh table leads to: the model's rules with the table's requests in flight,
--- stored back over the table's places.
+-- The table: 64 fixed slots, and what each call does on any contents of them, also some that no fresh table leads to.
+-- A request stays in its slot until it is freed; masks say which slots are used, and an order which of them is older.
 -- Assumes nothing.
 use mathlib.Core.Path.{_≡_}
-use Prim.Native.Nat.{ℕ, _≤_}
-use mathlib.Core.Bool.{Bool}
-use mathlib.Core.List.{List, _++_}
-use lib.Dec.{eqb, leb}
+use Prim.Native.Nat.{ℕ, zero, suc, _+_, _*_, _^_, _%_, max}
+use mathlib.Core.Bool.{Bool, not, _&&_}
+use mathlib.Core.List.{List, [], _∷_, _++_, map}
+use lib.Dec.{eqb, leb, ltb}
+use lib.Bits.{bitOr}
+use lib.Count.{ones}
 use lib.IntN.{ℤ, pos}
 use lib.Signed.{ltZ}
-use lib.ListN.{length, take, drop, replicate}
-use Rattle.wire.specs.Choice.{pick}
-use Rattle.inflight.specs.Matching.{blank}
-use Rattle.inflight.specs.Model.{Model}
-use Rattle.inflight.specs.Model as M
+use lib.ListN.{length, take, getD, set, replicate}
+use Rattle.wire.specs.Choice.{pick, first}
+use Rattle.inflight.specs.Numbers.{same, after}
+use Rattle.inflight.specs.Matching.{sumBelow, overFront}
+use Rattle.inflight.specs.Model.{noLink, noPublisher}
+use Rattle.inflight.specs.Masks.{slots, seek, gather, lowestFree, cut, within, outside}
+use Rattle.inflight.specs.Masks.{laidOut, closedUp, placedAnew}
 use Rattle.inflight.specs.declared.FrontNumber.{FrontNumber}
 use Rattle.inflight.specs.declared.PublisherNumber.{PublisherNumber}
-use Rattle.inflight.specs.declared.Request.{Request}
-use Rattle.inflight.specs.declared.Table.{Table}
-use Rattle.inflight.specs.declared.Key.{Key}
-use Rattle.inflight.specs.declared.Key.the-variants.{Reply, Cancel, Closed, Lost}
-use Rattle.inflight.specs.declared.Started.{Started}
+use Rattle.inflight.specs.declared.FreshAnswer.{FreshAnswer}
 use Rattle.inflight.specs.declared.FreshAnswer.the-variants as F
-use Rattle.inflight.specs.declared.Asked.{Asked}
+use Rattle.inflight.specs.declared.AskAnswer.{AskAnswer}
 use Rattle.inflight.specs.declared.AskAnswer.the-variants as A
-use Rattle.inflight.specs.declared.Replied.{Replied}
-use Rattle.inflight.specs.declared.Cancelled.{Cancelled}
-use Rattle.inflight.specs.declared.Dropped.{Dropped}
+use Rattle.inflight.specs.declared.ReplyAnswer.{ReplyAnswer}
+use Rattle.inflight.specs.declared.ReplyAnswer.the-variants as R
+use Rattle.inflight.specs.declared.CancelAnswer.{CancelAnswer}
+use Rattle.inflight.specs.declared.CancelAnswer.the-variants as C
+use Rattle.inflight.specs.declared.DropAnswer.{DropAnswer}
+use Rattle.inflight.specs.declared.DropAnswer.the-variants as D
 
--- the requests in flight in a table, oldest first
-unfoldable pub inFlight : Table → List Request
-inFlight t = take (t .count) (t .requests)
+-- masks: 0 the used slots, 1 + p those of publisher p.
+-- numbers: i the front number of slot i, 64 + i its publisher number, 128 + p the number after publisher p's last one.
+-- places: i the link of slot i, 64 + i its publisher.
+-- order: i the place of slot i in the order of acceptance, 0 for the oldest
+pub record Table : Type 0 where
+  pub masks : List ℕ
+  pub numbers : List ℤ
+  pub places : List ℕ
+  pub order : List ℕ
 
--- a table read as a model
-abbrev pub modelOf : Table → Model
-modelOf t = record { requests = inFlight t; next = t .next }
+-- a table by its arrays
+abbrev pub tableOf : List ℕ → List ℤ → List ℕ → List ℕ → Table
+tableOf ms ns ps os = record { masks = ms; numbers = ns; places = ps; order = os }
 
--- a model stored over a table's places: those past its requests stay
-unfoldable pub store : Table → Model → Table
-store t m = record { requests = m .requests ++ drop (length (m .requests)) (t .requests); count = length (m .requests); next = m .next }
+-- what the arrays' types say
+pub record Sized (t : Table) : Type 0 where
+  pub masks : length (t .masks) ≡ 9
+  pub numbers : length (t .numbers) ≡ 136
+  pub places : length (t .places) ≡ 128
+  pub order : length (t .order) ≡ 64
 
--- what a table's size says
-pub record Sized (t : Table) (n : ℕ) : Type 0 where
-  pub most : n ≤ 64
-  pub count : n ≡ length (inFlight t)
-  pub front : take n (t .requests) ≡ inFlight t
-  pub places : length (t .requests) ≡ 64
-  pub eight : length (t .next) ≡ 8
+-- the used slots
+abbrev pub used : Table → ℕ
+used t = getD (t .masks) 0 0
 
--- a table with no request, whose publishers' next number is n
-unfoldable pub emptyTable : PublisherNumber → Table
-emptyTable n = record { requests = replicate 64 blank; count = 0; next = replicate 8 n }
+-- the slots of a publisher
+abbrev pub mine : Table → ℕ → ℕ
+mine t p = getD (t .masks) (1 + p) 0
 
--- fresh: a first number below 1 is 30, and the table handed back with it starts at 1
-unfoldable pub freshOf : PublisherNumber → Started
-freshOf n =
-    pick (ltZ (n .0) (pos 1))
-    (record { table = emptyTable (record { 0 = pos 1 }); answer = F.Refused 30 })
-    (record { table = emptyTable n; answer = F.Ready })
+-- the used slots, oldest accepted first; of contents in which two have the same place, one is not there, and a place that
+-- none has is slot 0's
+unfoldable pub line : Table → List ℕ
+line t = take (ones (used t)) (laidOut (t .order) (slots (used t)) (replicate 64 0))
 
--- ask: as the model, but that a table whose 64 places are all taken, which no fresh one leads to, refuses with 33
-unfoldable pub askRefusalOf : Table → ℕ → FrontNumber → ℕ → ℕ
-askRefusalOf t l n p =
-    pick (eqb (M.askRefusal (modelOf t) l n p) 0) (pick (leb 64 (length (inFlight t))) 33 0) (M.askRefusal (modelOf t) l n p)
+-- ---- fresh
 
-unfoldable pub askOf : Table → ℕ → FrontNumber → ℕ → Asked
-askOf t l n p =
-    pick (eqb (askRefusalOf t l n p) 0)
-    (record { table = store t (M.accept (modelOf t) l n p); answer = A.Accepted (M.given (modelOf t) p) })
-    (record { table = t; answer = A.Refused (askRefusalOf t l n p) })
+pub record Started : Type 0 where
+  pub table : Table
+  pub answer : FreshAnswer
 
--- reply and cancel: what the key matches is removed, unless refused
-unfoldable pub takenOf : Table → Bool → ℤ → Key → Table
-takenOf t range n k = pick (eqb (M.takeRefusal (modelOf t) range n k) 0) (store t (M.remove (modelOf t) k)) t
+-- "a fresh table takes one first publisher number, at least 1, for all eight": one below 1 is 30, and the table stays
+abbrev pub noFirst : PublisherNumber → Bool
+noFirst n = ltZ (n .0) (pos 1)
 
-unfoldable pub replyOf : Table → ℕ → PublisherNumber → Replied
-replyOf t p n = record { table = takenOf t (M.noPublisher p) (n .0) (Reply p n); answer = M.replyAnswer (modelOf t) p n }
+unfoldable pub freshAnswer : PublisherNumber → FreshAnswer
+freshAnswer n = pick (noFirst n) (F.Refused 30) F.Ready
 
-unfoldable pub cancelOf : Table → ℕ → FrontNumber → Cancelled
-cancelOf t l n = record { table = takenOf t (M.noLink l) (n .0) (Cancel l n); answer = M.cancelAnswer (modelOf t) l n }
+-- no slot is used; every publisher's next number is the first; what the slots held stays
+unfoldable pub freshMasks : PublisherNumber → List ℕ → List ℕ
+freshMasks n ms = pick (noFirst n) ms (replicate 9 0)
 
--- closed and lost: what the key matches is removed, unless refused; and the slice afterwards
-unfoldable pub dropOf : Table → Bool → Key → List ℤ → Dropped
-dropOf t range k out =
+unfoldable pub freshNumbers : PublisherNumber → List ℤ → List ℤ
+freshNumbers n ns = pick (noFirst n) ns (take 128 ns ++ replicate 8 (n .0))
+
+-- fresh: the table and the answer
+unfoldable pub freshOf : Table → PublisherNumber → Started
+freshOf t n =
     record {
-      table = pick (eqb (M.dropRefusal (modelOf t) range k out) 0) (store t (M.remove (modelOf t) k)) t;
-      answer = M.dropAnswer (modelOf t) range k out;
+      table = record {
+        masks = freshMasks n (t .masks);
+        numbers = freshNumbers n (t .numbers);
+        places = t .places;
+        order = t .order;
+      };
+      answer = freshAnswer n;
     }
 
-unfoldable pub dropSliceOf : Table → Bool → Key → List ℤ → List ℤ
-dropSliceOf t range k out = M.dropSlice (modelOf t) range k out
+-- ---- ask
 
+-- whether slot i has a publisher number; a link and a front number; a link
+abbrev pub isNumber : List ℤ → PublisherNumber → ℕ → Bool
+isNumber ns n i = same (getD ns (64 + i) (pos 0)) (n .0)
+
+abbrev pub isFront : List ℤ → List ℕ → ℕ → FrontNumber → ℕ → Bool
+isFront ns ps l n i = eqb (getD ps i 0) l && same (getD ns i (pos 0)) (n .0)
+
+abbrev pub isLink : List ℕ → ℕ → ℕ → Bool
+isLink ps l i = eqb (getD ps i 0) l
+
+-- "a load is the count of ones in the publisher's mask"; the eight loads, each counted as at least 4, added up
+abbrev pub loadOf : List ℕ → ℕ → ℕ
+loadOf ms p = ones (getD ms (1 + p) 0)
+
+abbrev pub takenOf : List ℕ → ℕ
+takenOf ms = sumBelow 8 (λ q. max 4 (loadOf ms q))
+
+-- from n on, the first number that no slot of a mask has, looked for at `tries` numbers
+unfoldable pub freeOf : ℕ → ℕ → List ℤ → PublisherNumber → PublisherNumber
+freeOf zero m ns n = n
+freeOf (suc tries) m ns n = pick (eqb (seek (isNumber ns n) (slots m)) 64) n (freeOf tries m ns (after n))
+
+-- 32 and 33, and 0 where neither applies
+unfoldable pub loadRefusal : List ℕ → ℕ → ℕ
+loadRefusal ms p = first ((leb 16 (loadOf ms p), 32) ∷ (leb 4 (loadOf ms p) && eqb (takenOf ms) 64, 33) ∷ []) 0
+
+-- 30, 12, 31, 32, 33, and 0 where none applies
+unfoldable pub askRefusalOf : List ℕ → List ℤ → List ℕ → ℕ → FrontNumber → ℕ → ℕ
+askRefusalOf ms ns ps l n p =
+    first
+    ((noLink l, 30)
+    ∷ (noPublisher p, 30)
+    ∷ (same (n .0) (pos 0), 12)
+    ∷ (not (eqb (seek (isFront ns ps l n) (slots (getD ms 0 0))) 64), 31)
+    ∷ [])
+    (loadRefusal ms p)
+
+-- the number that an ask is given
+abbrev pub givenOf : Table → ℕ → PublisherNumber
+givenOf t p = freeOf (ones (used t)) (mine t p) (t .numbers) (record { 0 = getD (t .numbers) (128 + p) (pos 0) })
+
+-- a table with one request more, in slot s, behind all others in the order
+abbrev pub placed : Table → ℕ → FrontNumber → ℕ → ℕ → PublisherNumber → Table
+placed t l n p s g =
+    record {
+      masks = set (set (t .masks) 0 (bitOr (used t) (2 ^ s))) (1 + p) (bitOr (mine t p) (2 ^ s));
+      numbers = set (set (set (t .numbers) s (n .0)) (64 + s) (g .0)) (128 + p) (after g .0);
+      places = set (set (t .places) s l) (64 + s) p;
+      order = set (t .order) s (ones (used t));
+    }
+
+pub record Asked : Type 0 where
+  pub table : Table
+  pub answer : AskAnswer
+
+-- "a new ticket takes the lowest free slot"; where all 64 are used, which no fresh table leads to, the ask is refused
+-- with 33
+unfoldable pub askOf : Table → ℕ → FrontNumber → ℕ → Asked
+askOf t l n p =
+    pick (eqb (askRefusalOf (t .masks) (t .numbers) (t .places) l n p) 0)
+    (pick (leb 64 (lowestFree (used t)))
+    (record { table = t; answer = A.Refused 33 })
+    (record { table = placed t l n p (lowestFree (used t)) (givenOf t p); answer = A.Accepted (givenOf t p) }))
+    (record { table = t; answer = A.Refused (askRefusalOf (t .masks) (t .numbers) (t .places) l n p) })
+
+-- ---- reply and cancel
+
+-- all masks without the slots of one
+abbrev pub cutAll : ℕ → List ℕ → List ℕ
+cutAll gone ms = map (cut gone) ms
+
+-- a table without the request in one slot: only masks and order change
+unfoldable pub freed : Table → ℕ → Table
+freed t s =
+    record {
+      masks = cutAll (2 ^ s) (t .masks);
+      numbers = t .numbers;
+      places = t .places;
+      order = map (closedUp (getD (t .order) s 0)) (t .order);
+    }
+
+pub record Replied : Type 0 where
+  pub table : Table
+  pub answer : ReplyAnswer
+
+abbrev pub replyAt : Table → ℕ → Replied
+replyAt t s =
+    pick (leb 64 s)
+    (record { table = t; answer = R.Refused 34 })
+    (record { table = freed t s; answer = R.Front (getD (t .places) s 0) (record { 0 = getD (t .numbers) s (pos 0) }) })
+
+-- 30, 12, 34; else the request in the slot that is found is freed, and its link and front number are the answer
+unfoldable pub replyOf : Table → ℕ → PublisherNumber → Replied
+replyOf t p n =
+    first
+    ((noPublisher p, record { table = t; answer = R.Refused 30 })
+    ∷ (same (n .0) (pos 0), record { table = t; answer = R.Refused 12 })
+    ∷ [])
+    (replyAt t (seek (isNumber (t .numbers) n) (slots (mine t p))))
+
+pub record Cancelled : Type 0 where
+  pub table : Table
+  pub answer : CancelAnswer
+
+abbrev pub cancelAt : Table → ℕ → Cancelled
+cancelAt t s =
+    pick (leb 64 s)
+    (record { table = t; answer = C.Refused 34 })
+    (record {
+      table = freed t s;
+      answer = C.Publisher (getD (t .places) (64 + s) 0) (record { 0 = getD (t .numbers) (64 + s) (pos 0) });
+    })
+
+-- 30, 12, 34; else the request in the slot that is found is freed, and its publisher and publisher number are the answer
+unfoldable pub cancelOf : Table → ℕ → FrontNumber → Cancelled
+cancelOf t l n =
+    first
+    ((noLink l, record { table = t; answer = C.Refused 30 })
+    ∷ (same (n .0) (pos 0), record { table = t; answer = C.Refused 12 })
+    ∷ [])
+    (cancelAt t (seek (isFront (t .numbers) (t .places) l n) (slots (used t))))
+
+-- ---- closed and lost
+
+-- the slots of a link
+abbrev pub linked : Table → ℕ → ℕ
+linked t l = gather (isLink (t .places) l) (slots (used t)) 0
+
+-- those of a mask's slots that are used, oldest accepted first
+abbrev pub leaving : Table → ℕ → List ℕ
+leaving t gone = within gone (line t)
+
+-- their other ends: place and number of each at an offset, 0 for link and front number, 64 for publisher and
+-- publisher number
+unfoldable pub endsOf : List ℤ → List ℕ → ℕ → List ℕ → List ℤ
+endsOf ns ps base [] = []
+endsOf ns ps base (x ∷ xs) = pos (getD ps (base + x % 64) 0) ∷ getD ns (base + x % 64) (pos 0) ∷ endsOf ns ps base xs
+
+-- a table without the requests in the slots of a mask: only masks and order change
+unfoldable pub struck : Table → ℕ → Table
+struck t gone =
+    record {
+      masks = cutAll gone (t .masks);
+      numbers = t .numbers;
+      places = t .places;
+      order = placedAnew (outside gone (line t)) 0 (t .order);
+    }
+
+pub record Dropped : Type 0 where
+  pub table : Table
+  pub answer : DropAnswer
+  pub slice : List ℤ
+
+-- the requests of a mask's slots are freed and their other ends written, if the slice has two numbers for each; else 16
+unfoldable pub dropOf : Table → ℕ → ℕ → List ℤ → Dropped
+dropOf t gone base out =
+    pick (ltb (length out) (2 * length (leaving t gone)))
+    (record { table = t; answer = D.Refused 16; slice = out })
+    (record {
+      table = struck t gone;
+      answer = D.Count (length (leaving t gone));
+      slice = overFront (endsOf (t .numbers) (t .places) base (leaving t gone)) out;
+    })
+
+-- "closed all of its link": the other ends are publishers and publisher numbers
 unfoldable pub closedOf : Table → ℕ → List ℤ → Dropped
-closedOf t l out = dropOf t (M.noLink l) (Closed l) out
+closedOf t l out =
+    pick (noLink l) (record { table = t; answer = D.Refused 30; slice = out }) (dropOf t (linked t l) 64 out)
 
-unfoldable pub closedSliceOf : Table → ℕ → List ℤ → List ℤ
-closedSliceOf t l out = dropSliceOf t (M.noLink l) (Closed l) out
-
+-- "lost all of its publisher": the other ends are links and front numbers
 unfoldable pub lostOf : Table → ℕ → List ℤ → Dropped
-lostOf t p out = dropOf t (M.noPublisher p) (Lost p) out
-
-unfoldable pub lostSliceOf : Table → ℕ → List ℤ → List ℤ
-lostSliceOf t p out = dropSliceOf t (M.noPublisher p) (Lost p) out
+lostOf t p out =
+    pick (noPublisher p) (record { table = t; answer = D.Refused 30; slice = out }) (dropOf t (mine t p) 0 out)

@@ -1,17 +1,23 @@
 // Requests in flight (document 01: the ticket table): which front link asked which publisher, under which numbers.
-// It never opens a socket, reads a clock or allocates. `Table` is the state, by value; `Request` is one request in flight, and a `Key` names some.
-// `fresh` makes a table. The calls stand above: `ask` in crate `inflight_ask`, `reply` and `cancel` in `inflight_take`, `closed` and `lost` in `inflight_drop`.
-// Every call is total: a table that no call has made, garbage included, gets the answer that its definition gives (specs/Tables.antt).
-// What the calls do is document 01's book, specs/Model.antt, and nothing else.
-mod requests;
+// It never opens a socket, reads a clock or allocates. The caller keeps the table and lends it, as four arrays; every
+// call works where they stand, and a request stays in its slot until it is freed:
+//
+//     masks   [u64; 9]    0 the used slots, 1 + p those of publisher p
+//     numbers [i64; 136]  i the front number of slot i, 64 + i its publisher number,
+//                         128 + p the number after publisher p's last one
+//     places  [u8; 128]   i the link of slot i, 64 + i its publisher
+//     order   [u8; 64]    i the place of slot i in the order of acceptance, 0 the oldest
+//
+// Here are the types, the definitions and `fresh`, which starts a table. The calls stand above: `ask` in crate
+// `inflight_ask`, `reply` and `cancel` in `inflight_take`, `closed` and `lost` in `inflight_drop`, over masks and
+// searches (`inflight_slots`) and the freeing of slots (`inflight_free`). Every call is total: arrays that no call has
+// made, garbage included, get the answer that its definition gives (specs/Tables.antt). From a fresh table on, what the
+// calls do is document 01's book, specs/Model.antt, and nothing else (crate `inflight_claims`).
+mod numbers;
 mod start;
 
-pub use requests::count_matching;
-pub use requests::key_matches;
-pub use requests::remove_matching;
-pub use requests::same_front;
-pub use requests::same_number;
-pub use requests::size;
+pub use numbers::same_front;
+pub use numbers::same_number;
 pub use start::fresh;
 
 // A front number: it belongs to a front link.
@@ -21,31 +27,6 @@ pub struct FrontNumber(pub i64);
 // A publisher number: it belongs to a publisher's link.
 #[repr(C)]
 pub struct PublisherNumber(pub i64);
-
-// A request in flight (document 01: a ticket, an entry of the book).
-#[repr(C)]
-pub struct Request {
-    pub front: FrontNumber,
-    pub number: PublisherNumber,
-    pub link: u8,
-    pub publisher: u8,
-}
-
-// The table: its first `count` requests are in flight, oldest accepted first; `next` is the number after each publisher's last one.
-#[repr(C)]
-pub struct Table {
-    pub requests: [Request; 64],
-    pub count: usize,
-    pub next: [PublisherNumber; 8],
-}
-
-// What a call names requests by: publisher and number, link and number, link, publisher.
-pub enum Key {
-    Reply(u8, PublisherNumber),
-    Cancel(u8, FrontNumber),
-    Closed(u8),
-    Lost(u8),
-}
 
 // An ask is accepted with a publisher number, or refused.
 pub enum AskAnswer {
@@ -75,29 +56,4 @@ pub enum DropAnswer {
 pub enum FreshAnswer {
     Ready,
     Refused(u8),
-}
-
-pub struct Started {
-    pub table: Table,
-    pub answer: FreshAnswer,
-}
-
-pub struct Asked {
-    pub table: Table,
-    pub answer: AskAnswer,
-}
-
-pub struct Replied {
-    pub table: Table,
-    pub answer: ReplyAnswer,
-}
-
-pub struct Cancelled {
-    pub table: Table,
-    pub answer: CancelAnswer,
-}
-
-pub struct Dropped {
-    pub table: Table,
-    pub answer: DropAnswer,
 }

@@ -1,45 +1,56 @@
 // A fresh table.
 use super::FreshAnswer;
-use super::FrontNumber;
 use super::PublisherNumber;
-use super::Request;
-use super::Started;
-use super::Table;
 use refusal::OUT_OF_RANGE;
 ghost use mathlib.Core.Path.{_≡_};
-ghost use Rattle.inflight.specs.Tables.{emptyTable, freshOf};
+ghost use mathlib.Core.List.{_++_};
+ghost use lib.ListN.{length, take, replicate};
+ghost use Rattle.inflight.specs.Tables.{freshAnswer, freshMasks, freshNumbers};
 
-// A table with no request, whose publishers' next number is n.
-fn empty_table(n: PublisherNumber) -> Table
-    ensures { λ r. ⌜ r ≡ emptyTable n ⌝ }
+// What the type says of a lent array's length, for the proofs: it compiles to nothing.
+fn nine(a: [u64; 9])
+    ensures { λ r. ⌜ length a ≡ 9 ⌝ }
+{}
+
+fn numbered(a: [i64; 136])
+    ensures { λ r. ⌜ length a ≡ 136 ⌝ }
+{}
+
+// No slot is used.
+fn clear(masks: &mut [u64; 9])
+    ensures { λ r. ⌜ now (masks .exit) ≡ replicate 9 0 ⌝ }
 {
-    let e = Request {
-        link: 0,
-        front: FrontNumber(0),
-        publisher: 0,
-        number: PublisherNumber(0),
-    };
-    let requests = [e; 64];
-    let next = [n; 8];
-    Table {
-        requests: requests,
-        count: 0,
-        next: next,
+    nine(*masks);
+    let mut i: usize = 0;
+    while i < 9 {
+        masks[i] = 0;
+        i += 1;
     }
 }
 
-// A table that starts at a first publisher number. A refused one starts at 1.
-pub fn fresh(first: PublisherNumber) -> Started
-    ensures { λ r. ⌜ r ≡ freshOf first ⌝ }
+// Every publisher's next number is n.
+fn renumber(numbers: &mut [i64; 136], n: PublisherNumber)
+    ensures { λ r. ⌜ now (numbers .exit) ≡ take 128 (now (numbers .entry)) ++ replicate 8 (n .0) ⌝ }
+{
+    numbered(*numbers);
+    let x = n.0;
+    let mut p: usize = 0;
+    while p < 8 {
+        numbers[128 + p] = x;
+        p += 1;
+    }
+}
+
+// A table starts at a first publisher number; one below 1 is refused, and the table stays. `places` and `order` stay
+// in any case.
+pub fn fresh(masks: &mut [u64; 9], numbers: &mut [i64; 136], first: PublisherNumber) -> FreshAnswer
+    ensures { λ r. ⌜ (r ≡ freshAnswer first) × (now (masks .exit) ≡ freshMasks first (now (masks .entry)))
+        × (now (numbers .exit) ≡ freshNumbers first (now (numbers .entry))) ⌝ }
 {
     if first.0 < 1 {
-        return Started {
-            table: empty_table(PublisherNumber(1)),
-            answer: FreshAnswer::Refused(OUT_OF_RANGE),
-        };
+        return FreshAnswer::Refused(OUT_OF_RANGE);
     }
-    Started {
-        table: empty_table(first),
-        answer: FreshAnswer::Ready,
-    }
+    clear(masks);
+    renumber(numbers, first);
+    FreshAnswer::Ready
 }

@@ -1,4 +1,2 @@
--- The laws that the proofs of crate inflight_ask cite.
-pub mod CapacityLaws
-pub mod NumberingLaws
-pub mod AcceptLaws
+-- The laws that the proof of ask cites.
+pub mod AskingLaws

@@ -19,19 +19,19 @@ use Rattle.inflight.specs.Tables.{freshOf}
 use Rattle.inflight.specs.Calls.{Call, ask, reply, asked, replied, modelHeard, modelAfter, modelAt}
 use Rattle.inflight.specs.declared.FrontNumber.{FrontNumber}
 use Rattle.inflight.specs.declared.PublisherNumber.{PublisherNumber}
-use Rattle.inflight.specs.declared.Request.{Request}
-use Rattle.inflight.specs.declared.Key.{Key}
-use Rattle.inflight.specs.declared.Key.the-variants.{Reply}
+use Rattle.inflight.specs.Requests.{Request}
+use Rattle.inflight.specs.Requests.{Key}
+use Rattle.inflight.specs.Requests.{Reply}
 use Rattle.inflight.specs.declared.AskAnswer.the-variants as A
 use Rattle.inflight.specs.declared.ReplyAnswer.the-variants as R
 use Rattle.inflight.proofs.NumberLaws.{same-true, eq-same, ne-same}
 use Rattle.inflight_claims.specs.Delivery.{Answers, tableAnswers, frees, freedSince, askFor, Carried, round, steps, passed, gone, request, Delivery, Delivered}
 use Rattle.inflight_claims.proofs.Membership.{In, in-last, in-matching, matching-in, in-single, in-some, head-in}
 use Rattle.inflight_claims.proofs.History.{modelAnswers, at-snoc, stands, was-carried, or-false, shift}
-use Rattle.inflight_claims.proofs.Capacity.{accepts}
-use Rattle.inflight_claims.proofs.Invariant.{Ranged, inv-at, inv-empty, new-number, both}
+use Rattle.inflight_model.proofs.Capacity.{accepts}
+use Rattle.inflight_model.proofs.Invariant.{Ranged, inv-at, new-number, both}
 use Rattle.inflight_claims.proofs.ListClaim.{answer-accepted}
-use Rattle.inflight_claims.proofs.Same.{heard-at, fresh-model}
+use Rattle.inflight_tied.proofs.Simulated.{heard-at, fresh-good, fresh-model}
 use Rattle.inflight_claims.proofs.Numbering.{numbered-at, gone-more, gone-ask, right-round, steps-ranged, not-zero}
 
 -- ---- two places of a list
@@ -319,10 +319,11 @@ module _ (first : PublisherNumber) (ranged : Ranged first) where
 -- ---- the table's answers
 
 pub delivered : Delivered
-delivered n a b cs =
+delivered t z n a b cs =
     let first : PublisherNumber = record { 0 = pos n } in
     let r : Ranged first = record { at = n; is = refl; low = a; high = b } in
-    let e = fresh-model first (le-ltb n 1 a) in
-    let same-answers : tableAnswers first ≡ modelAnswers first =
-    fun-ext (λ before. fun-ext (λ c. heard-at before c (freshOf first .table) (rw e (inv-empty first r)) ∙ ap (λ (m : Model). modelHeard (modelAt m before) c) e)) in
+    let l = le-ltb n 1 a in
+    let same-answers : tableAnswers t first ≡ modelAnswers first =
+    fun-ext (λ before. fun-ext (λ c. heard-at before c (freshOf t first .table) (fresh-good t first z l r)
+    ∙ ap (λ (m : Model). modelHeard (modelAt m before) c) (fresh-model t first z l))) in
     subst (λ (answers : Answers). Delivery answers first cs) (sym same-answers) (of-model first r cs)

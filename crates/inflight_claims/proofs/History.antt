@@ -15,9 +15,9 @@ use Rattle.inflight.specs.Model as M
 use Rattle.inflight.specs.Calls.{Call, ask, reply, cancel, closed, lost, asked, replied, cancelled, dropped, modelHeard, modelAfter, modelAt}
 use Rattle.inflight.specs.declared.FrontNumber.{FrontNumber}
 use Rattle.inflight.specs.declared.PublisherNumber.{PublisherNumber}
-use Rattle.inflight.specs.declared.Request.{Request}
-use Rattle.inflight.specs.declared.Key.{Key}
-use Rattle.inflight.specs.declared.Key.the-variants.{Reply, Cancel, Closed, Lost}
+use Rattle.inflight.specs.Requests.{Request}
+use Rattle.inflight.specs.Requests.{Key}
+use Rattle.inflight.specs.Requests.{Reply, Cancel, Closed, Lost}
 use Rattle.inflight.specs.declared.AskAnswer.the-variants as A
 use Rattle.inflight.specs.declared.ReplyAnswer.the-variants as R
 use Rattle.inflight.specs.declared.CancelAnswer.the-variants as C

@@ -8,22 +8,26 @@ use lib.Dec.{eqb}
 use lib.IntN.{ℤ, pos, negsuc}
 use lib.Signed.{mag, ltZ, leZ}
 use lib.ListN.{length}
+use mathlib.Core.List.{List}
+use mir.Syntax.{w64}
+use mir.Val.{SFits}
 use borrow.Author.Tests.{eqb-true, eqb-false, eq-eqb, ne-eqb, le-ltb, le-leb, ltb-false}
 use Rattle.wire.specs.Choice.{pick}
 use Rattle.inflight.specs.Matching.{matching, load, capacityTaken}
 use Rattle.inflight.specs.Model.{Model, empty, askRefusal, askAnswer, given}
-use Rattle.inflight.specs.Tables.{freshOf}
-use Rattle.inflight.specs.Calls.{modelRun, modelAt}
+use Rattle.inflight.specs.Tables.{Table, Sized, freshOf}
+use Rattle.inflight.specs.Calls.{Call, modelRun, modelAt}
 use Rattle.inflight.specs.declared.FrontNumber.{FrontNumber}
 use Rattle.inflight.specs.declared.PublisherNumber.{PublisherNumber}
 use Rattle.inflight.specs.declared.AskAnswer.the-variants.{Accepted, Refused}
-use Rattle.inflight.specs.declared.Key.the-variants.{Reply}
+use Rattle.inflight.specs.declared.FreshAnswer.the-variants as F
+use Rattle.inflight.specs.Requests.{Reply}
 use Rattle.inflight.proofs.NumberLaws.{ne-same}
 use Rattle.inflight.proofs.AskLaws.{Applies, ask-full, ask-under, ask-gone, ask-left}
 use Rattle.inflight_claims.specs.ListClaim.{Valid, Capacity, Kept, ListClaim, Listed, AllFirsts}
-use Rattle.inflight_claims.proofs.Capacity.{accepts, bounded-size}
-use Rattle.inflight_claims.proofs.Invariant.{Ranged, Invariant, inv-empty, inv-at, given-ranged, new-number}
-use Rattle.inflight_claims.proofs.Same.{run-same, fresh-ready, ready-not-below, fresh-model}
+use Rattle.inflight_model.proofs.Capacity.{accepts, bounded-size}
+use Rattle.inflight_model.proofs.Invariant.{Ranged, Invariant, inv-at, given-ranged, new-number}
+use Rattle.inflight_tied.proofs.Simulated.{run-same, fresh-ready, ready-not-below, fresh-good, fresh-model}
 
 module _ (m : Model) (l : ℕ) (n : FrontNumber) (p : ℕ) where
   pub answer-yes : askRefusal m l n p ≡ 0 → askAnswer m l n p ≡ Accepted (given m p)
@@ -89,25 +93,36 @@ kept m f =
     from-one : (x : PublisherNumber) → Ranged x → leZ (pos 1) (x .0) ≡ true
     from-one x r = rw (r .is) (le-leb 1 (r .at) (r .low))
 
-pub listed : Listed
-listed n a b cs =
-    let first : PublisherNumber = record { 0 = pos n } in
-    let r : Ranged first = record { at = n; is = refl; low = a; high = b } in
-    let e = fresh-model first (le-ltb n 1 a) in
-    record {
-      ready = fresh-ready first (le-ltb n 1 a);
-      heard = run-same cs (freshOf first .table) (rw e (inv-empty first r)) ∙ ap (λ (m : Model). modelRun m cs) e;
-      kept = λ before rest q. kept (modelAt (empty first) before) (inv-at first r before);
-    }
+-- fresh accepts a number from 1 to the largest
+pub ranged-ready : (t : Table) (first : PublisherNumber) → Ranged first → freshOf t first .answer ≡ F.Ready
+ranged-ready t first r = fresh-ready t first (rw (r .is) (le-ltb (r .at) 1 (r .low)))
 
--- a first number that fresh accepts is from 1 to the largest
-pub all-firsts : AllFirsts
-all-firsts first f r cs = go (first .0) refl (ready-not-below first r)
+-- and of those that fit 64 bits no other
+pub ready-ranged : (t : Table) (first : PublisherNumber) → SFits w64 (first .0) → freshOf t first .answer ≡ F.Ready
+    → Ranged first
+ready-ranged t first f r = go (first .0) refl (ready-not-below t first r)
   where
-    go : (z : ℤ) → first .0 ≡ z → ltZ (first .0) (pos 1) ≡ false → ListClaim first cs
+    go : (z : ℤ) → first .0 ≡ z → ltZ (first .0) (pos 1) ≡ false → Ranged first
     go (pos n) e h =
         let low : 1 ≤ n = ltb-false n 1 (ap (λ (x : ℤ). ltZ x (pos 1)) (sym e) ∙ h) in
         let high : n < 2 ^ 63 = subst (λ (x : ℤ). mag x < 2 ^ 63) e (f .sfits) in
-        let is : record { 0 = pos n } ≡ first = ap (λ (x : ℤ). record { 0 = x }) (sym e) in
-        subst (λ (x : PublisherNumber). ListClaim x cs) is (listed n low (omega arith) cs)
+        record { at = n; is = ap (λ (x : ℤ). record { 0 = x }) e; low = low; high = omega arith }
     go (negsuc n) e h = absurd (false≢true (sym h ∙ ap (λ (x : ℤ). ltZ x (pos 1)) e))
+
+claim : (t : Table) → Sized t → (first : PublisherNumber) → Ranged first → (cs : List Call) → ListClaim t first cs
+claim t z first r cs =
+    let ready = ranged-ready t first r in
+    let low = ready-not-below t first ready in
+    record {
+      ready = ready;
+      heard =
+          run-same cs (freshOf t first .table) (fresh-good t first z low r)
+          ∙ ap (λ (m : Model). modelRun m cs) (fresh-model t first z low);
+      kept = λ before rest q. kept (modelAt (empty first) before) (inv-at first r before);
+    }
+
+pub listed : Listed
+listed t z n a b cs = claim t z (record { 0 = pos n }) (record { at = n; is = refl; low = a; high = b }) cs
+
+pub all-firsts : AllFirsts
+all-firsts t z first f r cs = claim t z first (ready-ranged t first f r) cs

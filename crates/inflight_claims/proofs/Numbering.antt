@@ -20,15 +20,15 @@ use Rattle.inflight.specs.Model as M
 use Rattle.inflight.specs.Calls.{Call, ask, reply, cancel, closed, lost, asked, replied, modelAfter, modelAt}
 use Rattle.inflight.specs.declared.FrontNumber.{FrontNumber}
 use Rattle.inflight.specs.declared.PublisherNumber.{PublisherNumber}
-use Rattle.inflight.specs.declared.Request.{Request}
-use Rattle.inflight.specs.declared.Key.the-variants.{Reply, Cancel, Closed, Lost}
+use Rattle.inflight.specs.Requests.{Request}
+use Rattle.inflight.specs.Requests.{Reply, Cancel, Closed, Lost}
 use Rattle.inflight.specs.declared.AskAnswer.the-variants as A
 use Rattle.inflight.specs.declared.ReplyAnswer.the-variants as R
 use Rattle.inflight.proofs.NumberLaws.{ne-same}
 use Rattle.inflight_claims.specs.Delivery.{Answers, refused, steps, inRow, passed, moved, goneFrom, gone}
-use Rattle.inflight_claims.proofs.Flight.{top, wrap, after-wrap, wrap-apart, wrap-zero}
-use Rattle.inflight_claims.proofs.Capacity.{accepts, bounded-space}
-use Rattle.inflight_claims.proofs.Invariant.{Ranged, inv-at, after-ranged, new-number}
+use Rattle.inflight_model.proofs.Flight.{top, wrap, after-wrap, wrap-apart, wrap-zero}
+use Rattle.inflight_model.proofs.Capacity.{accepts, bounded-space}
+use Rattle.inflight_model.proofs.Invariant.{Ranged, inv-at, after-ranged, new-number}
 use Rattle.inflight_claims.proofs.ListClaim.{answer-accepted}
 use Rattle.inflight_claims.proofs.History.{modelAnswers, at-snoc}
 

@@ -1,4 +1,6 @@
 -- The statements.
 pub mod ListClaim
+pub mod Rows
 pub mod Delivery
-pub mod EveryTable
+pub mod Before
+pub mod Slots

@@ -1,6 +1,7 @@
--- Demand 3, one claim about the list. For every first number from 1 on and every list of ask, reply, cancel, closed and lost calls, refused
--- ones included: every answer, refusal number and whole slice of the table is the model's; and at every point of the list the model keeps
--- to the sentences on capacity, and holds no number twice.
+-- Demand 3, one claim about the list. For every table of the types' sizes, first number from 1 on and list of ask,
+-- reply, cancel, closed and lost calls, refused ones included: every answer, refusal number and whole slice of the
+-- table is the model's; and at every point of the list the model keeps to the sentences on capacity, and holds no
+-- number twice.
 -- Assumes nothing.
 use mathlib.Core.Path.{_≡_}
 use Prim.Native.Nat.{ℕ, _≤_, _<_}
@@ -13,13 +14,13 @@ use mir.Syntax.{w64}
 use mir.Val.{SFits}
 use Rattle.inflight.specs.Matching.{matching, load, capacityTaken}
 use Rattle.inflight.specs.Model.{Model, empty, askAnswer, given}
-use Rattle.inflight.specs.Tables.{freshOf}
+use Rattle.inflight.specs.Tables.{Table, Sized, freshOf}
 use Rattle.inflight.specs.Calls.{Call, tableRun, modelRun, modelAt}
 use Rattle.inflight.specs.declared.FrontNumber.{FrontNumber}
 use Rattle.inflight.specs.declared.PublisherNumber.{PublisherNumber}
 use Rattle.inflight.specs.declared.AskAnswer.the-variants.{Accepted, Refused}
 use Rattle.inflight.specs.declared.FreshAnswer.the-variants as F
-use Rattle.inflight.specs.declared.Key.the-variants.{Reply, Cancel}
+use Rattle.inflight.specs.Requests.{Reply, Cancel}
 
 -- "an ask is valid if 30, 12 and 31 don't apply"
 pub record Valid (m : Model) (l : ℕ) (n : FrontNumber) (p : ℕ) : Type 0 where
@@ -57,20 +58,25 @@ pub record Kept (m : Model) : Type 0 where
   -- and is at least 1
   pub fromOne : (l : ℕ) (n : FrontNumber) (p : ℕ) (x : PublisherNumber) → askAnswer m l n p ≡ Accepted x → leZ (pos 1) (x .0) ≡ true
 
-pub record ListClaim (first : PublisherNumber) (cs : List Call) : Type 0 where
+pub record ListClaim (t : Table) (first : PublisherNumber) (cs : List Call) : Type 0 where
   -- fresh accepts the first number
-  pub ready : freshOf first .answer ≡ F.Ready
-  -- all that a caller gets: of every call its result or refusal number, and of closed and lost the whole lent slice after it, at every place
-  -- of the list. The tables themselves are heard by the calls that follow, since the list is any
-  pub heard : tableRun (freshOf first .table) cs ≡ modelRun (empty first) cs
+  pub ready : freshOf t first .answer ≡ F.Ready
+  -- all that a caller gets: of every call its result or refusal number, and of closed and lost the whole lent slice
+  -- after it, at every place of the list. The tables themselves are heard by the calls that follow, since the list is
+  -- any
+  pub heard : tableRun (freshOf t first .table) cs ≡ modelRun (empty first) cs
   -- at every point of the list
   pub kept : (before rest : List Call) → cs ≡ before ++ rest → Kept (modelAt (empty first) before)
 
--- the claim: for every first number from 1 to the largest, and every list of calls. A lower first number is refused with 30, and the table
--- that is handed back with the refusal is the one that starts at 1
+-- the claim: for every table whose arrays have their sizes, whatever they hold, every first number from 1 to the
+-- largest, and every list of calls. A lower first number is refused with 30, and the table stays as it was
 abbrev pub Listed : Type 0
-Listed = (n : ℕ) → 1 ≤ n → n ≤ 9223372036854775807 → (cs : List Call) → ListClaim (record { 0 = pos n }) cs
+Listed =
+    (t : Table) → Sized t → (n : ℕ) → 1 ≤ n → n ≤ 9223372036854775807 → (cs : List Call)
+    → ListClaim t (record { 0 = pos n }) cs
 
 -- and that is every first number that fresh accepts
 abbrev pub AllFirsts : Type 0
-AllFirsts = (first : PublisherNumber) → SFits w64 (first .0) → freshOf first .answer ≡ F.Ready → (cs : List Call) → ListClaim first cs
+AllFirsts =
+    (t : Table) → Sized t → (first : PublisherNumber) → SFits w64 (first .0) → freshOf t first .answer ≡ F.Ready
+    → (cs : List Call) → ListClaim t first cs

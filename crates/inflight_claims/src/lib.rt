@@ -1,4 +1,8 @@
 // Theorems about crate `inflight`, and nothing that runs. Each statement is a record in specs/, proved in proofs/.
-// specs/ListClaim.antt: every list of calls on a fresh table is answered as the model says, and what the model keeps to (`listed`).
-// specs/Delivery.antt: a reply goes to the one ask that carried its number to that publisher, once, or nowhere (`delivered`).
-// specs/EveryTable.antt: the calls on any table value, garbage included (`every-table`, in proofs/Same.antt).
+// specs/ListClaim.antt: every list of calls on a fresh table is answered as the model says, and what the model keeps
+// to (`listed`). specs/Rows.antt: the refusals of each call, row by row in their order (`rows`).
+// specs/Delivery.antt: a reply goes to the one ask that carried its number to that publisher, once, or nowhere
+// (`delivered`). specs/Before.antt: every first number, and every list of calls on a fresh table, is answered as the
+// table without slots and masks answered it (`as-before`).
+// specs/Slots.antt: loads and requests in flight are counts of ones in masks, and no call moves a request
+// (`loads-by-masks`, `used-by-mask`, `never-moves`).

@@ -1,2 +1,3 @@
--- The laws that the proofs of crate inflight_drop cite.
+-- The laws that the proofs of this crate cite.
 pub mod EndLaws
+pub mod DropLaws

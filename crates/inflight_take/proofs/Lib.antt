@@ -1,2 +1,2 @@
--- The laws that the proofs of crate inflight_take cite.
+-- The laws that the proofs of reply and cancel cite.
 pub mod TakeLaws

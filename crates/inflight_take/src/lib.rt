@@ -1,15 +1,7 @@
 // The calls that take one request out of the table: reply, by publisher and number, and cancel, by link and number.
-// They never open a socket, read a clock or allocate: a table goes in by value and comes back with the answer.
-// Both are total on every table value; the types and the definitions are in crate `inflight`.
-mod search;
+// They never open a socket, read a clock or allocate: the table is lent, as the four arrays of crate `inflight`, and
+// changes where it stands. Both are total on any contents; the types and the definitions are in crate `inflight`.
 mod taking;
 
-use inflight::Request;
 pub use taking::cancel;
 pub use taking::reply;
-
-// A request, or none.
-enum Found {
-    At(Request),
-    Nothing,
-}

@@ -1,85 +1,82 @@
-// Reply and cancel: the refusals in their order, and the request out of the table where it is found.
-use crate::Found;
-use crate::search::first_matching;
+// Reply and cancel: the refusals in their order, and the slot freed where it is found.
 use inflight::CancelAnswer;
-use inflight::Cancelled;
 use inflight::FrontNumber;
-use inflight::Key;
 use inflight::PublisherNumber;
-use inflight::Replied;
 use inflight::ReplyAnswer;
-use inflight::Table;
-use inflight::remove_matching;
 use inflight::same_front;
 use inflight::same_number;
+use inflight_free::free;
+use inflight_slots::find_front;
+use inflight_slots::find_number;
 use refusal::NO_SUCH_REQUEST;
 use refusal::NUMBER_ZERO;
 use refusal::OUT_OF_RANGE;
 ghost use mathlib.Core.Path.{_≡_};
-ghost use Rattle.inflight.specs.Tables.{replyOf, cancelOf};
+ghost use Rattle.inflight.specs.Tables.{tableOf, Replied, replyOf, Cancelled, cancelOf};
 
 // Reply (publisher, number): hands back link and front number, and frees the request.
-pub fn reply(t: Table, publisher: u8, number: PublisherNumber) -> Replied
-    ensures { λ r. ⌜ r ≡ replyOf t publisher number ⌝ }
+pub fn reply(
+    masks: &mut [u64; 9],
+    numbers: &[i64; 136],
+    places: &[u8; 128],
+    order: &mut [u8; 64],
+    publisher: u8,
+    number: PublisherNumber,
+) -> ReplyAnswer
+    ensures { λ r. ⌜ _≡_ {A = Replied} (record {
+      table = tableOf (now (masks .exit)) (now (numbers .entry))
+          (now (places .entry)) (now (order .exit));
+      answer = r;
+    })
+        (replyOf (tableOf (now (masks .entry)) (now (numbers .entry)) (now (places .entry))
+        (now (order .entry))) publisher number) ⌝ }
 {
     if 8 <= publisher {
-        return Replied {
-            table: t,
-            answer: ReplyAnswer::Refused(OUT_OF_RANGE),
-        };
+        return ReplyAnswer::Refused(OUT_OF_RANGE);
     }
     if same_number(number, PublisherNumber(0)) {
-        return Replied {
-            table: t,
-            answer: ReplyAnswer::Refused(NUMBER_ZERO),
-        };
+        return ReplyAnswer::Refused(NUMBER_ZERO);
     }
-    let k = Key::Reply(publisher, number);
-    match first_matching(t, k) {
-        Found::Nothing => Replied {
-            table: t,
-            answer: ReplyAnswer::Refused(NO_SUCH_REQUEST),
-        },
-        Found::At(e) => {
-            let link = e.link;
-            let front = e.front;
-            Replied {
-                table: remove_matching(t, k),
-                answer: ReplyAnswer::Front(link, front),
-            }
-        }
+    let p = publisher as usize;
+    let s = find_number(masks[1 + p], numbers, number);
+    if 64 <= s {
+        return ReplyAnswer::Refused(NO_SUCH_REQUEST);
     }
+    let link = places[s];
+    let front = numbers[s];
+    free(masks, order, s);
+    ReplyAnswer::Front(link, FrontNumber(front))
 }
 
 // Cancel (link, number): hands back publisher and publisher number, and frees the request.
-pub fn cancel(t: Table, link: u8, number: FrontNumber) -> Cancelled
-    ensures { λ r. ⌜ r ≡ cancelOf t link number ⌝ }
+pub fn cancel(
+    masks: &mut [u64; 9],
+    numbers: &[i64; 136],
+    places: &[u8; 128],
+    order: &mut [u8; 64],
+    link: u8,
+    number: FrontNumber,
+) -> CancelAnswer
+    ensures { λ r. ⌜ _≡_ {A = Cancelled}
+        (record {
+          table = tableOf (now (masks .exit)) (now (numbers .entry)) (now (places .entry)) (now (order .exit));
+          answer = r;
+        })
+        (cancelOf (tableOf (now (masks .entry)) (now (numbers .entry)) (now (places .entry))
+        (now (order .entry))) link number) ⌝ }
 {
     if 32 <= link {
-        return Cancelled {
-            table: t,
-            answer: CancelAnswer::Refused(OUT_OF_RANGE),
-        };
+        return CancelAnswer::Refused(OUT_OF_RANGE);
     }
     if same_front(number, FrontNumber(0)) {
-        return Cancelled {
-            table: t,
-            answer: CancelAnswer::Refused(NUMBER_ZERO),
-        };
+        return CancelAnswer::Refused(NUMBER_ZERO);
     }
-    let k = Key::Cancel(link, number);
-    match first_matching(t, k) {
-        Found::Nothing => Cancelled {
-            table: t,
-            answer: CancelAnswer::Refused(NO_SUCH_REQUEST),
-        },
-        Found::At(e) => {
-            let publisher = e.publisher;
-            let given = e.number;
-            Cancelled {
-                table: remove_matching(t, k),
-                answer: CancelAnswer::Publisher(publisher, given),
-            }
-        }
+    let s = find_front(masks[0], numbers, places, link, number);
+    if 64 <= s {
+        return CancelAnswer::Refused(NO_SUCH_REQUEST);
     }
+    let publisher = places[64 + s];
+    let given = numbers[64 + s];
+    free(masks, order, s);
+    CancelAnswer::Publisher(publisher, PublisherNumber(given))
 }

@@ -1,15 +1,12 @@
 // Reply and cancel.
-use crate::CancelStep;
 use crate::RelayCancelled;
 use crate::RelayReplied;
-use crate::ReplyStep;
 use inflight::CancelAnswer;
 use inflight::FrontNumber;
 use inflight::PublisherNumber;
 use inflight::ReplyAnswer;
-use inflight::Table;
 ghost use mathlib.Core.Path.{_≡_};
-ghost use Rattle.inflight.specs.Tables.{replyOf, cancelOf};
+ghost use Rattle.inflight.specs.Tables.{tableOf, replyOf, cancelOf};
 ghost use Rattle.take_c.specs.TakeFields.{replyFields, cancelFields};
 
 // The answers as numbers.
@@ -47,55 +44,44 @@ fn cancel_fields(a: CancelAnswer) -> RelayCancelled
     }
 }
 
-// The calls by value, their answers as numbers.
-fn reply_step(t: Table, publisher: u8, number: PublisherNumber) -> ReplyStep
-    ensures { λ r. ⌜ (r .answer ≡ replyFields (replyOf t publisher number .answer)) × (r .table ≡ replyOf t publisher number .table) ⌝ }
-{
-    let a = inflight_take::reply(t, publisher, number);
-    let after = a.table;
-    let answer = a.answer;
-    ReplyStep {
-        table: after,
-        answer: reply_fields(answer),
-    }
-}
-
-fn cancel_step(t: Table, link: u8, number: FrontNumber) -> CancelStep
-    ensures { λ r. ⌜ (r .answer ≡ cancelFields (cancelOf t link number .answer)) × (r .table ≡ cancelOf t link number .table) ⌝ }
-{
-    let a = inflight_take::cancel(t, link, number);
-    let after = a.table;
-    let answer = a.answer;
-    CancelStep {
-        table: after,
-        answer: cancel_fields(answer),
-    }
-}
-
 // Reply (publisher, number): hands back link and front number, and frees the request.
 #[no_mangle]
-pub extern "C" fn relay_reply(
-    table: &mut Table,
+pub extern "C" fn relay_reply_lent(
+    masks: &mut [u64; 9],
+    numbers: &[i64; 136],
+    places: &[u8; 128],
+    order: &mut [u8; 64],
     publisher: u8,
     number: PublisherNumber,
 ) -> RelayReplied
-    ensures { λ r. ⌜ (r ≡ replyFields (replyOf (now (table .entry)) publisher number .answer))
-        × (now (table .exit) ≡ replyOf (now (table .entry)) publisher number .table) ⌝ }
+    ensures { λ r. ⌜ (r ≡ replyFields (replyOf
+        (tableOf (now (masks .entry)) (now (numbers .entry)) (now (places .entry))
+        (now (order .entry))) publisher number .answer))
+        × (tableOf (now (masks .exit)) (now (numbers .entry)) (now (places .entry)) (now (order .exit)) ≡ replyOf
+        (tableOf (now (masks .entry)) (now (numbers .entry)) (now (places .entry))
+        (now (order .entry))) publisher number .table) ⌝ }
 {
-    let t = *table;
-    let r = reply_step(t, publisher, number);
-    *table = r.table;
-    r.answer
+    let a = inflight_take::reply(masks, numbers, places, order, publisher, number);
+    reply_fields(a)
 }
 
 // Cancel (link, number): hands back publisher and publisher number, and frees the request.
 #[no_mangle]
-pub extern "C" fn relay_cancel(table: &mut Table, link: u8, number: FrontNumber) -> RelayCancelled
-    ensures { λ r. ⌜ (r ≡ cancelFields (cancelOf (now (table .entry)) link number .answer))
-        × (now (table .exit) ≡ cancelOf (now (table .entry)) link number .table) ⌝ }
+pub extern "C" fn relay_cancel_lent(
+    masks: &mut [u64; 9],
+    numbers: &[i64; 136],
+    places: &[u8; 128],
+    order: &mut [u8; 64],
+    link: u8,
+    number: FrontNumber,
+) -> RelayCancelled
+    ensures { λ r. ⌜ (r ≡ cancelFields (cancelOf
+        (tableOf (now (masks .entry)) (now (numbers .entry)) (now (places .entry))
+        (now (order .entry))) link number .answer))
+        × (tableOf (now (masks .exit)) (now (numbers .entry)) (now (places .entry)) (now (order .exit)) ≡ cancelOf
+        (tableOf (now (masks .entry)) (now (numbers .entry)) (now (places .entry))
+        (now (order .entry))) link number .table) ⌝ }
 {
-    let t = *table;
-    let r = cancel_step(t, link, number);
-    *table = r.table;
-    r.answer
+    let a = inflight_take::cancel(masks, numbers, places, order, link, number);
+    cancel_fields(a)
 }

@@ -1,15 +1,17 @@
-// The table of requests in flight for C: the calls that take one request, reply and cancel. Each exported function wraps
-// one call of the crate `inflight_take` and has its contract; the other calls are in the crates `ask_c` and `drops_c`.
+// The table of requests in flight for C: the calls that take one request, reply and cancel. Each exported function
+// wraps one call of the crate `inflight_take` and has its contract; the other calls are in the crates `ask_c` and
+// `drops_c`.
 //
-// The caller keeps the table and lends it: a call updates it where it stands, allocates nothing and decides nothing. An
-// answer is a struct of numbers: `refusal` is the refusal's number, or 0, and the other fields of a refusal are 0.
+// The caller keeps the table and lends it, as the four arrays of crate `inflight`: a call updates them where they
+// stand, copies none, allocates nothing and decides nothing. include/relay.h has the struct of the four, and a call
+// on it for each of these. An answer is a struct of numbers: `refusal` is the refusal's number, or 0, and the other
+// fields of a refusal are 0.
 mod calls;
 
-pub use calls::relay_cancel;
-pub use calls::relay_reply;
+pub use calls::relay_cancel_lent;
+pub use calls::relay_reply_lent;
 use inflight::FrontNumber;
 use inflight::PublisherNumber;
-use inflight::Table;
 
 // A reply that goes to a link and its front number.
 #[repr(C)]
@@ -25,15 +27,4 @@ pub struct RelayCancelled {
     pub refusal: u8,
     pub publisher: u8,
     pub number: PublisherNumber,
-}
-
-// The table after a call, and the answer.
-struct ReplyStep {
-    table: Table,
-    answer: RelayReplied,
-}
-
-struct CancelStep {
-    table: Table,
-    answer: RelayCancelled,
 }

@@ -14,8 +14,8 @@ use Rattle.inflight.specs.declared.PublisherNumber.{PublisherNumber}
 use Rattle.walk_turn.specs.declared.Event.{Event}
 use Rattle.walk_turn.specs.declared.Event.the-variants.{Ask, Reply, Cancel, Closed, Lost, End, Cut, Unknown}
 
--- "1 ask: link 1, number 8, publisher 1. 2 reply: publisher 1, number 8. 3 cancel: link 1, number 8. 4 closed: link 1. 5 lost: publisher 1":
--- the length of a kind's body, and 0 for an unknown kind
+-- "1 ask: link 1, number 8, publisher 1. 2 reply: publisher 1, number 8. 3 cancel: link 1, number 8. 4 closed: link
+-- 1. 5 lost: publisher 1": the length of a kind's body, and 0 for an unknown kind
 unfoldable pub bodySize : ℕ → ℕ
 bodySize kind = first ((eqb kind 1, 10) ∷ (eqb kind 2, 9) ∷ (eqb kind 3, 9) ∷ (eqb kind 4, 1) ∷ (eqb kind 5, 1) ∷ []) 0
 
@@ -58,7 +58,8 @@ recordSize End = 0
 recordSize Cut = 0
 recordSize Unknown = 0
 
--- "until they end": at the end of the bytes nothing is to do, and a record that is cut off waits for the next bytes, unless these are the last
+-- "until they end": at the end of the bytes nothing is to do, and a record that is cut off waits for the next bytes,
+-- unless these are the last
 abbrev pub waits : Event → Bool → Bool
 waits (Ask l n p) last = false
 waits (Reply p n) last = false

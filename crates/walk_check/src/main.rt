@@ -3,7 +3,6 @@
 ghost use Prim.Native.Nat.{_≤_};
 use inflight::FreshAnswer;
 use inflight::PublisherNumber;
-use inflight::Table;
 use libc::STDIN_FILENO;
 use libc::STDOUT_FILENO;
 
@@ -40,14 +39,20 @@ fn print_refusal(no: u8) {
 }
 
 // The lines of all events, as many as the buffer has room for at a time.
-fn print_walk(table: Table, events: &[u8], out: &mut [u8]) {
-    let mut t = table;
+fn print_walk(
+    masks: &mut [u64; 9],
+    numbers: &mut [i64; 136],
+    places: &mut [u8; 128],
+    order: &mut [u8; 64],
+    events: &[u8],
+    out: &mut [u8],
+) {
     let mut at: usize = 0;
     let mut turns = events.len();
     while 0 < turns {
         turns -= 1;
         let from = least(at, events.len());
-        let r = walk::walk(t, &events[from..], out, true);
+        let r = walk::walk(masks, numbers, places, order, &events[from..], out, true);
         let written = least(r.written, out.len());
         io::write_all(STDOUT_FILENO, &out[0..written]);
         if r.stopped {
@@ -58,7 +63,6 @@ fn print_walk(table: Table, events: &[u8], out: &mut [u8]) {
             return;
         }
         at = from + used;
-        t = r.table;
     }
 }
 
@@ -73,14 +77,25 @@ fn run(events: &mut [u8], out: &mut [u8]) -> bool {
         return false;
     }
     print_run(wire::u64_at(&head, 0));
-    let start = inflight::fresh(PublisherNumber(wire::i64_at(&head, 0)));
-    let answer = start.answer;
+    let mut masks = [0u64; 9];
+    let mut numbers = [0i64; 136];
+    let mut places = [0u8; 128];
+    let mut order = [0u8; 64];
+    let answer = inflight::fresh(
+        &mut masks,
+        &mut numbers,
+        PublisherNumber(wire::i64_at(&head, 0)),
+    );
     match answer {
         FreshAnswer::Refused(no) => print_refusal(no),
-        FreshAnswer::Ready => {
-            let t = start.table;
-            print_walk(t, &events[0..m], out);
-        }
+        FreshAnswer::Ready => print_walk(
+            &mut masks,
+            &mut numbers,
+            &mut places,
+            &mut order,
+            &events[0..m],
+            out,
+        ),
     }
     true
 }

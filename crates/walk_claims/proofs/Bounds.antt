@@ -9,7 +9,7 @@ use borrow.Author.Tests.{le-ltb, ltb-false, eqb-false}
 use lib.Dec.{eqb, ltb}
 use lib.ListN.{length, drop, length-append}
 use Rattle.wire.specs.Choice.{pick}
-use Rattle.inflight.specs.declared.Table.{Table}
+use Rattle.inflight.specs.Tables.{Table}
 use Rattle.walk_turn.specs.Turn.{linesOf, afterEvent}
 use Rattle.walk.specs.Events.{eventOf, recordSize, waits}
 use Rattle.walk.specs.Walk.{Outcome, ends, after, walkFrom, walkOf}
@@ -18,37 +18,37 @@ use Rattle.walk_claims.specs.Bounds.{Bounds}
 use Rattle.walk_claims.proofs.FullText.{positive}
 use Rattle.walk_claims.proofs.Resume.{stepOf, consumed-most}
 
-step-written : (w z : Bool) (t : Table) (lines : List ℕ) (o : Outcome) (size room : ℕ) → (length lines ≤ room → length (o .text) ≤ room - length lines)
-    → length (stepOf w (ltb room (length lines)) z t lines (after size lines o) .text) ≤ room
+step-written : (w z : Bool) (t : Table) (lines : List ℕ) (o : Outcome) (size room : ℕ) → length lines ≤ 4096 → length (o .text) ≤ room - length lines
+    → length (stepOf w (ltb room 4096) z t lines (after size lines o) .text) ≤ room
 unfolding after
-step-written true z t lines o size room h = omega arith
-step-written false z t lines o size room h = go (ltb room (length lines)) z refl
+step-written true z t lines o size room k h = omega arith
+step-written false z t lines o size room k h = go (ltb room 4096) z refl
   where
-    go : (f z : Bool) → ltb room (length lines) ≡ f → length (stepOf false f z t lines (after size lines o) .text) ≤ room
+    go : (f z : Bool) → ltb room 4096 ≡ f → length (stepOf false f z t lines (after size lines o) .text) ≤ room
     go true z q = omega arith
-    go false true q = ltb-false room (length lines) q
-    go false false q = let l = ltb-false room (length lines) q in omega (arith, length-append lines (o .text), h l)
+    go false true q = let l = ltb-false room 4096 q in omega (arith, l, k)
+    go false false q = let l = ltb-false room 4096 q in omega (arith, length-append lines (o .text), h, l, k)
 
 written-most : (j : ℕ) (t : Table) (es : List ℕ) (room : ℕ) (last : Bool) → length (walkFrom j t es room last .text) ≤ room
 unfolding walkFrom
 written-most zero t es room last = omega arith
 written-most (suc j) t es room last =
-    step-written (waits (eventOf es) last) (eqb (recordSize (eventOf es)) 0) t (linesOf t (eventOf es)) _ (recordSize (eventOf es)) room
-    (λ h. written-most j (afterEvent t (eventOf es)) (drop (recordSize (eventOf es)) es) (room - length (linesOf t (eventOf es))) last)
+    step-written (waits (eventOf es) last) (eqb (recordSize (eventOf es)) 0) t (linesOf t (eventOf es)) _ (recordSize (eventOf es)) room (lines-short t (eventOf es))
+    (written-most j (afterEvent t (eventOf es)) (drop (recordSize (eventOf es)) es) (room - length (linesOf t (eventOf es))) last)
 
-step-moves : (w z : Bool) (t : Table) (lines : List ℕ) (o : Outcome) (size room : ℕ) → w ≡ false → length lines ≤ room → (z ≡ false → 0 < size)
-    → stepOf w (ltb room (length lines)) z t lines (after size lines o) .stopped ≡ false → 0 < stepOf w (ltb room (length lines)) z t lines (after size lines o) .consumed
+step-moves : (w z : Bool) (t : Table) (lines : List ℕ) (o : Outcome) (size room : ℕ) → w ≡ false → 4096 ≤ room → (z ≡ false → 0 < size)
+    → stepOf w (ltb room 4096) z t lines (after size lines o) .stopped ≡ false → 0 < stepOf w (ltb room 4096) z t lines (after size lines o) .consumed
 unfolding after
 step-moves true z t lines o size room w f p h = absurd (true≢false w)
-step-moves false true t lines o size room w f p h = absurd (true≢false (rw (le-ltb room (length lines) f) at h))
-step-moves false false t lines o size room w f p h = rw (le-ltb room (length lines) f) (omega (arith, p refl))
+step-moves false true t lines o size room w f p h = absurd (true≢false (rw (le-ltb room 4096 f) at h))
+step-moves false false t lines o size room w f p h = rw (le-ltb room 4096 f) (omega (arith, p refl))
 
 moves-at : (j : ℕ) (t : Table) (es : List ℕ) (room : ℕ) (last : Bool) → waits (eventOf es) last ≡ false → 4096 ≤ room
     → walkFrom (suc j) t es room last .stopped ≡ false → 0 < walkFrom (suc j) t es room last .consumed
 unfolding walkFrom
 moves-at j t es room last w f h =
-    step-moves (waits (eventOf es) last) (eqb (recordSize (eventOf es)) 0) t (linesOf t (eventOf es)) _ (recordSize (eventOf es)) room w
-    (omega (arith, lines-short t (eventOf es))) (λ z. positive (recordSize (eventOf es)) (eqb-false _ _ z)) h
+    step-moves (waits (eventOf es) last) (eqb (recordSize (eventOf es)) 0) t (linesOf t (eventOf es)) _ (recordSize (eventOf es)) room w f
+    (λ z. positive (recordSize (eventOf es)) (eqb-false _ _ z)) h
 
 moves-from : (t : Table) (es : List ℕ) (room : ℕ) (last : Bool) → waits (eventOf es) last ≡ false → 4096 ≤ room
     → walkFrom (length es) t es room last .stopped ≡ false → 0 < walkFrom (length es) t es room last .consumed

@@ -10,7 +10,7 @@ use lib.Dec.{eqb, ltb}
 use lib.ListN.{length, drop, length-append, length-drop}
 use Rattle.wire.specs.Choice.{pick}
 use Rattle.inflight.specs.Calls.{Call, tableRun}
-use Rattle.inflight.specs.declared.Table.{Table}
+use Rattle.inflight.specs.Tables.{Table}
 use Rattle.walk_turn.specs.Lines.{callLines, refusedLine}
 use Rattle.walk_turn.specs.Turn.{linesOf, afterEvent, lentSlice}
 use Rattle.walk_turn.specs.declared.Event.{Event}
@@ -88,17 +88,17 @@ full-fuel (suc k) (suc j) t es h g =
 
 -- ---- with room enough the walk gives it
 
-enough-at : (w z : Bool) (t : Table) (lines rest : List ℕ) (o : Outcome) (size room : ℕ) → length (pick w [] (lines ++ pick z [] rest)) ≤ room
-    → (length rest ≤ room - length lines → o .text ≡ rest)
-    → pick w (ends t [] false) (pick (ltb room (length lines)) (ends t [] false) (pick z (ends t lines true) (after size lines o))) .text ≡ pick w [] (lines ++ pick z [] rest)
+enough-at : (w z : Bool) (t : Table) (lines rest : List ℕ) (o : Outcome) (size room : ℕ) → length (pick w [] (lines ++ pick z [] rest)) + 4096 ≤ room
+    → (length rest + 4096 ≤ room - length lines → o .text ≡ rest)
+    → pick w (ends t [] false) (pick (ltb room 4096) (ends t [] false) (pick z (ends t lines true) (after size lines o))) .text ≡ pick w [] (lines ++ pick z [] rest)
 unfolding after
 enough-at true z t lines rest o size room h g = refl
 enough-at false true t lines rest o size room h g =
-    rw (le-ltb room (length lines) (omega (arith, length-append lines []))) (sym (append-nil lines))
+    rw (le-ltb room 4096 (omega arith)) (sym (append-nil lines))
 enough-at false false t lines rest o size room h g =
-    rw (le-ltb room (length lines) (omega (arith, length-append lines rest))) (ap (λ (x : List ℕ). lines ++ x) (g (omega (arith, length-append lines rest))))
+    rw (le-ltb room 4096 (omega arith)) (ap (λ (x : List ℕ). lines ++ x) (g (omega (arith, length-append lines rest))))
 
-pub enough : (k : ℕ) (t : Table) (es : List ℕ) (room : ℕ) → length (fullFrom k t es) ≤ room → walkFrom k t es room true .text ≡ fullFrom k t es
+pub enough : (k : ℕ) (t : Table) (es : List ℕ) (room : ℕ) → length (fullFrom k t es) + 4096 ≤ room → walkFrom k t es room true .text ≡ fullFrom k t es
 unfolding fullFrom walkFrom
 enough zero t es room h = refl
 enough (suc k) t es room h =

@@ -12,10 +12,9 @@ use lib.ListN.{length, drop}
 use lib.Seq.{drop-append-le}
 use Rattle.wire.specs.Choice.{pick}
 use Rattle.inflight.specs.Model.{empty}
-use Rattle.inflight.specs.Tables.{freshOf}
 use Rattle.inflight.specs.Calls.{Call, Heard, modelRun, tableRun}
 use Rattle.inflight.specs.declared.PublisherNumber.{PublisherNumber}
-use Rattle.inflight.specs.declared.Table.{Table}
+use Rattle.inflight.specs.Tables.{Table, Sized, freshOf}
 use Rattle.inflight_claims.proofs.ListClaim.{listed}
 use Rattle.walk_turn.specs.Lines.{refusedLine}
 use Rattle.walk.specs.Walk.{Outcome, walkFrom, walkOf}
@@ -75,28 +74,28 @@ over-text s h = go (s .stopped) h
     go true q = append-nil (s .text)
     go false q = rw (nil-of (s .left) (eqb-true (length (s .left)) 0 q)) (append-nil (s .text))
 
-module _ (n : ℕ) (a : 1 ≤ n) (b : n ≤ 9223372036854775807) where
+module _ (t : Table) (sized : Sized t) (n : ℕ) (a : 1 ≤ n) (b : n ≤ 9223372036854775807) where
   abbrev first : PublisherNumber
   first = record { 0 = pos n }
 
-  full-text : (es : List ℕ) → full (freshOf first .table) es ≡ modelText first es
+  full-text : (es : List ℕ) → full (freshOf t first .table) es ≡ modelText first es
   unfolding told modelText
-  full-text es = full-is (length es) (freshOf first .table) es ∙ rw (listed n a b (callsFrom (length es) es) .heard)
+  full-text es = full-is (length es) (freshOf t first .table) es ∙ rw (listed t sized n a b (callsFrom (length es) es) .heard)
 
-  pub program-text : ProgramText first
+  pub program-text : ProgramText t first
   unfolding walkOf
   program-text =
       record {
         whole = λ es room h.
-            enough (length es) (freshOf first .table) es room (subst (λ (x : List ℕ). length x ≤ room) (sym (full-text es)) h) ∙ full-text es;
+            enough (length es) (freshOf t first .table) es room (subst (λ (x : List ℕ). length x + 4096 ≤ room) (sym (full-text es)) h) ∙ full-text es;
         pieces = λ ps rooms h.
-            sym (over-text (finish (feedAll (fedFirst (freshOf first .table)) ps) rooms) h)
-            ∙ finish-keeps (feedAll (fedFirst (freshOf first .table)) ps) rooms
-            ∙ feed-all-keeps (fedFirst (freshOf first .table)) ps []
-            ∙ ap (full (freshOf first .table)) (append-nil (joined ps))
+            sym (over-text (finish (feedAll (fedFirst (freshOf t first .table)) ps) rooms) h)
+            ∙ finish-keeps (feedAll (fedFirst (freshOf t first .table)) ps) rooms
+            ∙ feed-all-keeps (fedFirst (freshOf t first .table)) ps []
+            ∙ ap (full (freshOf t first .table)) (append-nil (joined ps))
             ∙ full-text (joined ps);
-        ends = λ ps. comes-to-an-end (fedFirst (freshOf first .table)) ps refl;
+        ends = λ ps. comes-to-an-end (fedFirst (freshOf t first .table)) ps refl;
       }
 
 pub program-texts : ProgramTexts
-program-texts n a b = program-text n a b
+program-texts t sized n a b = program-text t sized n a b

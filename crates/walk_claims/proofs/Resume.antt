@@ -10,7 +10,7 @@ use lib.Dec.{eqb, ltb}
 use lib.ListN.{length, drop, length-append, length-drop}
 use lib.Seq.{drop-append-le, drop-drop}
 use Rattle.wire.specs.Choice.{pick}
-use Rattle.inflight.specs.declared.Table.{Table}
+use Rattle.inflight.specs.Tables.{Table}
 use Rattle.walk_turn.specs.Turn.{linesOf, afterEvent}
 use Rattle.walk_turn.specs.declared.Event.{Event}
 use Rattle.walk_turn.specs.declared.Event.the-variants.{Ask, Reply, Cancel, Closed, Lost, End, Cut, Unknown}
@@ -33,7 +33,7 @@ stepOf w f z t lines on = pick w (ends t [] false) (pick f (ends t [] false) (pi
 
 step-is : (j : ℕ) (t : Table) (es : List ℕ) (room : ℕ) (last : Bool)
     → walkFrom (suc j) t es room last
-    ≡ stepOf (waits (eventOf es) last) (ltb room (length (linesOf t (eventOf es)))) (eqb (recordSize (eventOf es)) 0) t (linesOf t (eventOf es))
+    ≡ stepOf (waits (eventOf es) last) (ltb room 4096) (eqb (recordSize (eventOf es)) 0) t (linesOf t (eventOf es))
     (after (recordSize (eventOf es)) (linesOf t (eventOf es))
     (walkFrom j (afterEvent t (eventOf es)) (drop (recordSize (eventOf es)) es) (room - length (linesOf t (eventOf es))) last))
 unfolding walkFrom
@@ -83,7 +83,7 @@ pub resume : (j : ℕ) (t : Table) (es more : List ℕ) (room : ℕ) (last : Boo
 unfolding walkFrom
 resume zero t es more room last k m fuel = stay t es more last k m fuel
 resume (suc j) t es more room last k m fuel =
-    go (waits (eventOf es) last) (ltb room (length (linesOf t (eventOf es)))) (eqb (recordSize (eventOf es)) 0) refl refl
+    go (waits (eventOf es) last) (ltb room 4096) (eqb (recordSize (eventOf es)) 0) refl refl
     (λ z. resume j (afterEvent t (eventOf es)) (drop (recordSize (eventOf es)) es) more (room - length (linesOf t (eventOf es))) last k m
     (omega (arith, length-append (drop (recordSize (eventOf es)) es) more, length-append es more, length-drop (recordSize (eventOf es)) es)))
   where
@@ -109,7 +109,7 @@ pub consumed-most : (j : ℕ) (t : Table) (es : List ℕ) (room : ℕ) (last : B
 unfolding walkFrom after
 consumed-most zero t es room last = omega arith
 consumed-most (suc j) t es room last =
-    step-most (waits (eventOf es) last) (ltb room (length (linesOf t (eventOf es)))) (eqb (recordSize (eventOf es)) 0) t (linesOf t (eventOf es)) _ (length es)
+    step-most (waits (eventOf es) last) (ltb room 4096) (eqb (recordSize (eventOf es)) 0) t (linesOf t (eventOf es)) _ (length es)
     (omega (
       arith,
       record-fits es,

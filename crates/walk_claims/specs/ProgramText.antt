@@ -1,8 +1,9 @@
--- The program's text is the model's. For a table fresh from a first number from 1 on and every list of event bytes, the text that the walk
--- gives is: the events decoded into calls, the model run on them, and what is heard rendered; and `no 35` at an unknown kind or a cut record.
+-- The program's text is the model's. For a table started afresh, whatever it held, from a first number from 1 on, and
+-- every list of event bytes, the text that the walk gives is: the events decoded into calls, the model run on them, and
+-- what is heard rendered; and `no 35` at an unknown kind or a cut record.
 -- Assumes nothing.
 use mathlib.Core.Path.{_≡_}
-use Prim.Native.Nat.{ℕ, zero, suc, _≤_}
+use Prim.Native.Nat.{ℕ, zero, suc, _+_, _≤_}
 use mathlib.Core.Bool.{Bool, true, false, _||_}
 use mathlib.Core.List.{List, [], _∷_, _++_}
 use lib.Dec.{eqb}
@@ -10,10 +11,9 @@ use lib.IntN.{pos}
 use lib.ListN.{length, drop, replicate}
 use Rattle.wire.specs.Choice.{pick}
 use Rattle.inflight.specs.Model.{empty}
-use Rattle.inflight.specs.Tables.{freshOf}
 use Rattle.inflight.specs.Calls.{Call, Heard, ask, reply, cancel, closed, lost, modelRun}
 use Rattle.inflight.specs.declared.PublisherNumber.{PublisherNumber}
-use Rattle.inflight.specs.declared.Table.{Table}
+use Rattle.inflight.specs.Tables.{Table, Sized, freshOf}
 use Rattle.walk_turn.specs.Lines.{callLines, refusedLine}
 use Rattle.walk_turn.specs.Turn.{lentSlice}
 use Rattle.walk_turn.specs.declared.Event.{Event}
@@ -113,15 +113,18 @@ over s = s .stopped || eqb (length (s .left)) 0
 
 -- ---- the claim
 
-pub record ProgramText (first : PublisherNumber) : Type 0 where
-  -- one call with all bytes and room enough
-  pub whole : (es : List ℕ) (room : ℕ) → length (modelText first es) ≤ room → walkOf (freshOf first .table) es room true .text ≡ modelText first es
+pub record ProgramText (t : Table) (first : PublisherNumber) : Type 0 where
+  -- one call with all bytes and room enough: of the text, and the 4,096 bytes without which no event is begun
+  pub whole : (es : List ℕ) (room : ℕ) → length (modelText first es) + 4096 ≤ room
+      → walkOf (freshOf t first .table) es room true .text ≡ modelText first es
   -- any pieces, any room: once the walk is over, its text is the model's
-  pub pieces : (ps : List Piece) (rooms : List ℕ) → over (finish (feedAll (fedFirst (freshOf first .table)) ps) rooms) ≡ true
-      → finish (feedAll (fedFirst (freshOf first .table)) ps) rooms .text ≡ modelText first (joined ps)
+  pub pieces : (ps : List Piece) (rooms : List ℕ)
+      → over (finish (feedAll (fedFirst (freshOf t first .table)) ps) rooms) ≡ true
+      → finish (feedAll (fedFirst (freshOf t first .table)) ps) rooms .text ≡ modelText first (joined ps)
   -- and it is over after as many calls more as there are bytes, each with room for the lines of any event
-  pub ends : (ps : List Piece) → over (finish (feedAll (fedFirst (freshOf first .table)) ps) (replicate (length (joined ps)) 4096)) ≡ true
+  pub ends : (ps : List Piece)
+      → over (finish (feedAll (fedFirst (freshOf t first .table)) ps) (replicate (length (joined ps)) 4096)) ≡ true
 
--- for every first number from 1 to the largest
+-- for every table whose arrays have their sizes, and every first number from 1 to the largest
 abbrev pub ProgramTexts : Type 0
-ProgramTexts = (n : ℕ) → 1 ≤ n → n ≤ 9223372036854775807 → ProgramText (record { 0 = pos n })
+ProgramTexts = (t : Table) → Sized t → (n : ℕ) → 1 ≤ n → n ≤ 9223372036854775807 → ProgramText t (record { 0 = pos n })

@@ -1,7 +1,6 @@
 -- Where the relay walk's program starts (document 01, "Program: relay walk"). Assumes nothing.
 use mathlib.Core.Bool.{true, false}
 use lib.IntN.{pos}
-use Rattle.inflight.specs.Tables.{freshOf}
 use Rattle.inflight.specs.declared.PublisherNumber.{PublisherNumber}
 use Rattle.walk_progress.specs.declared.Progress.{Progress}
 
@@ -9,6 +8,6 @@ use Rattle.walk_progress.specs.declared.Progress.{Progress}
 abbrev pub one : PublisherNumber
 one = record { 0 = pos 1 }
 
--- the table fresh from 1, nothing waiting, the events not ended, and a step to come
+-- nothing waiting, the events not ended, and a step to come
 unfoldable pub startOf : Progress
-startOf = record { table = freshOf one .table; have = 0; ended = false; more = true }
+startOf = record { have = 0; ended = false; more = true }

@@ -5,15 +5,13 @@
 // hands to the next.
 mod steps;
 
-use inflight::Table;
 pub use steps::goes_on;
 pub use steps::no_more;
 pub use steps::start;
 
-// What the next step starts from: the table, how many event bytes wait at the buffer's front, whether the events have
-// ended, and whether there is a next step.
+// What the next step starts from, besides the table, which is lent to it: how many event bytes wait at the buffer's
+// front, whether the events have ended, and whether there is a next step.
 pub struct Progress {
-    pub table: Table,
     pub have: usize,
     pub ended: bool,
     pub more: bool,

@@ -1,19 +1,15 @@
 // The start, and whether there is more to come.
 use crate::Progress;
-use inflight::PublisherNumber;
 ghost use mathlib.Core.Path.{_≡_};
 ghost use mathlib.Core.Bool.{not, _&&_, _||_};
 ghost use lib.Dec.{eqb, ltb};
 ghost use Rattle.walk_progress.specs.Start.{startOf};
 
-// The table fresh from 1, nothing waiting, and more to come.
+// Nothing waiting, and more to come.
 pub fn start() -> Progress
     ensures { λ r. ⌜ r ≡ startOf ⌝ }
 {
-    let fresh = inflight::fresh(PublisherNumber(1));
-    let table = fresh.table;
     Progress {
-        table,
         have: 0,
         ended: false,
         more: true,

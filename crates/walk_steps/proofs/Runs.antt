@@ -10,7 +10,7 @@ use lib.Dec.{eqb, ltb}
 use lib.ListN.{length, take, drop, length-append, length-drop, length-take}
 use lib.Seq.{sets, length-sets, sets-eq, take-append-seam}
 use Rattle.wire.specs.Bytes.{part}
-use Rattle.inflight.specs.Tables.{freshOf}
+use Rattle.inflight.specs.Tables.{Table, Sized, freshOf}
 use Rattle.walk_claims.specs.ProgramText.{Fed, fedFirst, feed, Piece, feedAll, finish, joined, modelText, over}
 use Rattle.walk_claims.proofs.ProgramText.{program-texts}
 use Rattle.walk_progress.specs.declared.Progress.{Progress}
@@ -80,30 +80,33 @@ end-over false true true q = refl
 end-over false true false q = absurd (true≢false q)
 end-over false false z q = absurd (true≢false q)
 
-abbrev start : Fed
-start = fedFirst (freshOf one .table)
+abbrev start : Table → Fed
+start z = fedFirst (freshOf z one .table)
 
 none-yet : (s : Fed) → finish s [] ≡ s
 unfolding finish
 none-yet s = refl
 
 -- what a run has read and done with one step more
-record Longer (last : Bool) (fed : Fed) (pieces : List Piece) : Type 0 where
+record Longer (z : Table) (last : Bool) (fed : Fed) (pieces : List Piece) : Type 0 where
   pieces' : List Piece
   rooms' : List ℕ
-  is : fed ≡ finish (feedAll start pieces') rooms'
+  is : fed ≡ finish (feedAll (start z) pieces') rooms'
   reading : last ≡ false → rooms' ≡ []
   same : joined pieces' ≡ joined pieces
 
-module _ {p : Progress} {events out text : List ℕ} {r : Progress} {eventsAfter outAfter : List ℕ} (run : Run p events text)
-    (s : Stepped p events out r eventsAfter outAfter) where
+module _ {t u : Table} {p r : Progress} {events out text eventsAfter outAfter : List ℕ}
+    (run : Run t p events text) (s : Stepped t p events out u r eventsAfter outAfter) where
+  abbrev first : Fed
+  first = start (run .former)
+
   abbrev last : Bool
   last = lastOf p events (s .count)
 
   held : heldOf p events ≡ p .have
   held = min-eq-left (run .within)
 
-  from-run : fedOf p events ≡ bare (run .fed)
+  from-run : fedOf t p events ≡ bare (run .fed)
   from-run = rw (held, run .table, run .left) refl
 
   abbrev next : Fed
@@ -123,18 +126,20 @@ module _ {p : Progress} {events out text : List ℕ} {r : Progress} {eventsAfter
       ap (λ (k : ℕ). part (s .filled) (heldOf p events) k)
       (last-none (p .ended) (ltb (heldOf p events) (length events)) (s .count) (λ e. s .none e .0) q)
 
-  longer : Longer last next (run .pieces ++ pieceOf s ∷ [])
+  longer : Longer (run .former) last next (run .pieces ++ pieceOf s ∷ [])
   longer = go last refl
     where
-      go : (b : Bool) → last ≡ b → Longer b next (run .pieces ++ pieceOf s ∷ [])
+      go : (b : Bool) → last ≡ b → Longer (run .former) b next (run .pieces ++ pieceOf s ∷ [])
       go false q =
           record {
             pieces' = run .pieces ++ pieceOf s ∷ [];
             rooms' = [];
             is = on false q
                 ∙ ap (λ (x : Fed). feed false x (pieceOf s .bytes) (length out))
-                (run .is ∙ ap (finish (feedAll start (run .pieces))) (run .reading (not-ended (p .ended) _ q)) ∙ none-yet (feedAll start (run .pieces)))
-                ∙ sym (feed-all-more start (run .pieces) (pieceOf s)) ∙ sym (none-yet (feedAll start (run .pieces ++ pieceOf s ∷ [])));
+                (run .is ∙ ap (finish (feedAll first (run .pieces))) (run .reading (not-ended (p .ended) _ q))
+                ∙ none-yet (feedAll first (run .pieces)))
+                ∙ sym (feed-all-more first (run .pieces) (pieceOf s))
+                ∙ sym (none-yet (feedAll first (run .pieces ++ pieceOf s ∷ [])));
             reading = λ z. refl;
             same = refl;
           }
@@ -145,7 +150,7 @@ module _ {p : Progress} {events out text : List ℕ} {r : Progress} {eventsAfter
             is = on true q
                 ∙ ap (λ (x : List ℕ). feed true (run .fed) x (length out)) (nothing q)
                 ∙ ap (λ (x : Fed). feed true x [] (length out)) (run .is)
-                ∙ sym (finish-more (feedAll start (run .pieces)) (run .rooms) (length out));
+                ∙ sym (finish-more (feedAll first (run .pieces)) (run .rooms) (length out));
             reading = λ z. absurd (true≢false z);
             same = sym (joined-more (run .pieces) (pieceOf s) (nothing q));
           }
@@ -155,7 +160,7 @@ module _ {p : Progress} {events out text : List ℕ} {r : Progress} {eventsAfter
   left-fits =
       let l : length (s .fed .left) ≤ length (take (heldOf p events) events) + length (pieceOf s .bytes) =
       subst (λ (x : Fed). length (x .left) ≤ length (take (heldOf p events) events) + length (pieceOf s .bytes)) (sym (s .is))
-      (left-short last (fedOf p events) (pieceOf s .bytes) (length out) refl) in
+      (left-short last (fedOf t p events) (pieceOf s .bytes) (length out) refl) in
       omega (
         arith,
         l,
@@ -165,9 +170,11 @@ module _ {p : Progress} {events out text : List ℕ} {r : Progress} {eventsAfter
         s .size,
       )
 
-  goes : r .more ≡ true → Run r eventsAfter (text ++ s .fed .text)
+  goes : r .more ≡ true → Run u r eventsAfter (text ++ s .fed .text)
   goes m =
       record {
+        former = run .former;
+        sized = run .sized;
         pieces = longer .pieces';
         rooms = longer .rooms';
         fed = next;
@@ -186,16 +193,19 @@ module _ {p : Progress} {events out text : List ℕ} {r : Progress} {eventsAfter
       (ap (λ (x : Bool). x && not (s .fed .stopped || (last && eqb (length (s .fed .left)) 0))) (sym w) ∙ sym (s .more) ∙ m) in
       ap (λ (x : List ℕ). x ++ s .fed .text) (run .text-is)
       ∙ ap (λ (x : Fed). x .text) (longer .is)
-      ∙ program-texts 1 (omega arith) (omega arith) .pieces (longer .pieces') (longer .rooms') (ap over (sym (longer .is)) ∙ e)
+      ∙ program-texts (run .former) (run .sized) 1 (omega arith) (omega arith)
+      .pieces (longer .pieces') (longer .rooms') (ap over (sym (longer .is)) ∙ e)
       ∙ ap (modelText one) (longer .same)
 
-first-run : (events : List ℕ) → Run startOf events []
+first-run : (z : Table) → Sized z → (events : List ℕ) → Run (freshOf z one .table) startOf events []
 unfolding startOf finish feedAll
-first-run events =
+first-run z sized events =
     record {
+      former = z;
+      sized = sized;
       pieces = [];
       rooms = [];
-      fed = start;
+      fed = start z;
       is = refl;
       reading = λ q. refl;
       table = refl;
@@ -209,6 +219,6 @@ pub runs : Runs
 runs =
     record {
       begins = first-run;
-      goes-on = λ p events out text r eventsAfter outAfter run s m. goes run s m;
-      ends-as-model = λ p events out text r eventsAfter outAfter run s w m. ends run s w m;
+      goes-on = λ t u p r events out text eventsAfter outAfter run s m. goes run s m;
+      ends-as-model = λ t u p r events out text eventsAfter outAfter run s w m. ends run s w m;
     }

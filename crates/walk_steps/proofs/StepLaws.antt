@@ -8,7 +8,7 @@ use lib.Dec.{eqb, ltb}
 use lib.ListN.{length, take, drop, length-take, length-drop}
 use lib.Seq.{sets, length-sets, length-take-le, take-add}
 use Rattle.wire.specs.Bytes.{part}
-use Rattle.inflight.specs.declared.Table.{Table}
+use Rattle.inflight.specs.Tables.{Table}
 use Rattle.walk.specs.Walk.{Outcome, walkOf, Told}
 use Rattle.walk.specs.declared.Walked.{Walked}
 use Rattle.walk_claims.specs.ProgramText.{Fed, feed}
@@ -29,32 +29,34 @@ joined-read p events filled end f =
 abbrev fedBy : Outcome → List ℕ → Fed
 fedBy o es = record { table = o .table; left = drop (o .consumed) es; text = o .text; stopped = o .stopped }
 
-fed-is : (last : Bool) (p : Progress) (events piece : List ℕ) (room : ℕ) (es : List ℕ) → take (heldOf p events) events ++ piece ≡ es
-    → fedBy (walkOf (p .table) es room last) es ≡ feed last (fedOf p events) piece room
+fed-is : (last : Bool) (t : Table) (p : Progress) (events piece : List ℕ) (room : ℕ) (es : List ℕ)
+    → take (heldOf p events) events ++ piece ≡ es
+    → fedBy (walkOf t es room last) es ≡ feed last (fedOf t p events) piece room
 unfolding feed
-fed-is last p events piece room es e = rw (sym e) refl
+fed-is last t p events piece room es e = rw (sym e) refl
 
 -- the walk stays within what it was lent
-pub told-consumed : {o : List ℕ} {w : Walked} (t : Table) (filled out : List ℕ) (end : ℕ) (last : Bool)
-    → Told (walkOf t (part filled 0 (end - 0)) (length out) last) out w o → w .consumed ≤ end
+pub told-consumed : {u : Table} {o : List ℕ} {w : Walked} (t : Table) (filled out : List ℕ) (end : ℕ) (last : Bool)
+    → Told (walkOf t (part filled 0 (end - 0)) (length out) last) out u w o → w .consumed ≤ end
 told-consumed t filled out end last told =
     let es : List ℕ = part filled 0 (end - 0) in
     omega (arith, bounds t es (length out) last .consumed, length-take (end - 0) (drop 0 filled), ap (λ (w : Walked). w .consumed) (told .answer))
 
-pub told-written : {o : List ℕ} {w : Walked} (t : Table) (es out : List ℕ) (last : Bool)
-    → Told (walkOf t es (length out) last) out w o → w .written ≤ length o
-told-written {o} t es out last told =
+pub told-written : {u : Table} {o : List ℕ} {w : Walked} (t : Table) (es out : List ℕ) (last : Bool)
+    → Told (walkOf t es (length out) last) out u w o → w .written ≤ length o
+told-written {u} {o} t es out last told =
     let l : length o ≡ length out = ap length (told .text) ∙ length-sets out 0 (walkOf t es (length out) last .text) in
     omega (arith, bounds t es (length out) last .written, ap (λ (w : Walked). w .written) (told .answer))
 
-pub stepped : (p : Progress) (events out filled : List ℕ) (from end : ℕ) (last written more : Bool) (w : Walked) (eventsAfter outAfter : List ℕ)
+pub stepped : (t : Table) (p : Progress) (events out filled : List ℕ) (from end : ℕ) (last written more : Bool)
+    (u : Table) (w : Walked) (eventsAfter outAfter : List ℕ)
     → from ≡ heldOf p events → FilledUnless (p .ended) from events end filled
     → last ≡ (p .ended || (ltb from (length filled) && eqb (end - from) 0))
-    → Told (walkOf (p .table) (part filled 0 (end - 0)) (length out) last) out w outAfter
+    → Told (walkOf t (part filled 0 (end - 0)) (length out) last) out u w outAfter
     → eventsAfter ≡ sets filled 0 (part filled (w .consumed) (end - w .consumed))
     → more ≡ (written && not (w .stopped || (last && eqb (end - w .consumed) 0)))
-    → Stepped p events out (record { table = w .table; have = end - w .consumed; ended = last; more = more }) eventsAfter outAfter
-stepped p events out filled from end last written more w eventsAfter outAfter held read ended told moved m =
+    → Stepped t p events out u (record { have = end - w .consumed; ended = last; more = more }) eventsAfter outAfter
+stepped t p events out filled from end last written more u w eventsAfter outAfter held read ended told moved m =
     let h : ℕ = heldOf p events in
     let f : FilledUnless (p .ended) h events end filled = subst (λ (k : ℕ). FilledUnless (p .ended) k events end filled) held read in
     let l : last ≡ lastOf p events (end - h) =
@@ -63,10 +65,10 @@ stepped p events out filled from end last written more w eventsAfter outAfter he
     let es : List ℕ = part filled 0 (end - 0) in
     let z : end - 0 ≡ end = omega arith in
     let whole : es ≡ take end filled = ap (λ (k : ℕ). take k filled) z in
-    let o : Outcome = walkOf (p .table) es (length out) last in
+    let o : Outcome = walkOf t es (length out) last in
     let n : length es ≡ end = ap length whole ∙ length-take-le end filled (omega (arith, f .filled .fits, f .filled .size)) in
     let c : w .consumed ≡ o .consumed = ap (λ (x : Walked). x .consumed) (told .answer) in
-    let b : w .consumed ≤ end = told-consumed (p .table) filled out end last told in
+    let b : w .consumed ≤ end = told-consumed t filled out end last told in
     let left : end - w .consumed ≡ length (drop (o .consumed) es) = rw length-drop (omega arith) in
     record {
       filled = filled;
@@ -77,9 +79,10 @@ stepped p events out filled from end last written more w eventsAfter outAfter he
       fits = omega (arith, f .filled .least, f .filled .fits);
       none = λ q. (omega (arith, f .none q .0), f .none q .1);
       fed = fedBy o es;
-      is = fed-is last p events (part filled h (end - h)) (length out) es (joined-read p events filled end f ∙ sym whole)
-          ∙ ap (λ (x : Bool). feed x (fedOf p events) (part filled h (end - h)) (length out)) l;
-      table = ap (λ (x : Walked). x .table) (told .answer);
+      is = fed-is last t p events (part filled h (end - h)) (length out) es
+          (joined-read p events filled end f ∙ sym whole)
+          ∙ ap (λ (x : Bool). feed x (fedOf t p events) (part filled h (end - h)) (length out)) l;
+      table = told .table;
       have = left;
       ended = l;
       more = m ∙ rw (← l, ← left, ap (λ (x : Walked). x .stopped) (told .answer)) refl;

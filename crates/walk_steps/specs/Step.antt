@@ -8,6 +8,7 @@ use lib.Dec.{eqb, ltb}
 use lib.ListN.{length, take}
 use lib.Seq.{sets}
 use Rattle.wire.specs.Bytes.{part}
+use Rattle.inflight.specs.Tables.{Table}
 use Rattle.walk_claims.specs.ProgramText.{Fed, feed}
 use Rattle.walk_progress.specs.declared.Progress.{Progress}
 
@@ -32,15 +33,16 @@ abbrev pub heldOf : Progress → List ℕ → ℕ
 heldOf p events = min (p .have) (length events)
 
 -- what a step starts from, in the words of the walk's pieces
-abbrev pub fedOf : Progress → List ℕ → Fed
-fedOf p events = record { table = p .table; left = take (heldOf p events) events; text = []; stopped = false }
+abbrev pub fedOf : Table → Progress → List ℕ → Fed
+fedOf t p events = record { table = t; left = take (heldOf p events) events; text = []; stopped = false }
 
 -- whether these are the last bytes: the events had ended, or a read that had room brought nothing
 abbrev pub lastOf : Progress → List ℕ → ℕ → Bool
 lastOf p events count = p .ended || (ltb (heldOf p events) (length events) && eqb count 0)
 
--- what a step leaves, on any progress and any buffers
-pub record Stepped (p : Progress) (events out : List ℕ) (r : Progress) (eventsAfter outAfter : List ℕ) : Type 0 where
+-- what a step leaves, on any table, any progress and any buffers: u and r are the table and the progress after it
+pub record Stepped (t : Table) (p : Progress) (events out : List ℕ) (u : Table) (r : Progress)
+    (eventsAfter outAfter : List ℕ) : Type 0 where
   -- what the world decides: the buffer after the read, how many bytes were read, and whether the text was written whole
   pub filled : List ℕ
   pub count : ℕ
@@ -51,8 +53,8 @@ pub record Stepped (p : Progress) (events out : List ℕ) (r : Progress) (events
   pub none : p .ended ≡ true → (count ≡ 0) × (filled ≡ events)
   -- one call of the walk on what waited and what was read, with all of `out` as room
   pub fed : Fed
-  pub is : fed ≡ feed (lastOf p events count) (fedOf p events) (part filled (heldOf p events) count) (length out)
-  pub table : r .table ≡ fed .table
+  pub is : fed ≡ feed (lastOf p events count) (fedOf t p events) (part filled (heldOf p events) count) (length out)
+  pub table : u ≡ fed .table
   pub have : r .have ≡ length (fed .left)
   pub ended : r .ended ≡ lastOf p events count
   -- there is a next step unless the walk stopped, or all was read and consumed, or the text could not be written

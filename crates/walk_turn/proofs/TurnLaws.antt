@@ -6,22 +6,16 @@ use mathlib.Core.List.{List}
 use Prim.Native.Nat.{ℕ, _*_, _≤_}
 use native.Mathlib.Omega.{arith}
 use borrow.Author.Tests.{ltb-false}
-use lib.Dec.{ltb}
+use lib.Dec.{leb, ltb}
 use lib.IntN.{ℤ}
 use lib.ListN.{length}
 use lib.Seq.{sets}
-use Rattle.inflight.specs.Matching.{matching}
-use Rattle.inflight.specs.Model.{Model, noLink, noPublisher, dropRefusal, dropAnswer}
-use Rattle.inflight.specs.Tables.{modelOf, dropOf, closedOf, lostOf}
-use Rattle.inflight.specs.declared.Table.{Table}
-use Rattle.inflight.specs.declared.Key.{Key}
-use Rattle.inflight.specs.declared.Key.the-variants.{Closed, Lost}
+use Rattle.inflight.specs.Tables.{Table, mine, linked, leaving, dropOf, closedOf, lostOf}
 use Rattle.walk_turn.specs.Lines.{countOf}
-use Rattle.walk_turn.specs.Turn.{turnOf, linesOf}
+use Rattle.walk_turn.specs.Turn.{Turned, turnOf, linesOf}
 use Rattle.walk_turn.specs.declared.Event.{Event}
-use Rattle.walk_turn.specs.declared.Turned.{Turned}
 
-abbrev turned : Table → ℕ → Turned
+abbrev pub turned : Table → ℕ → Turned
 turned t n = record { table = t; size = n }
 
 -- the lines r are the lines s
@@ -35,22 +29,29 @@ turn-is {R} {r} {k} {d₁} table lines d e h =
     subst (λ (x : R). (turned (table r) k ≡ turned (table x) (length (lines x))) × (d₁ ≡ sets d 0 (lines x))) e (ap (turned (table r)) (h .0), h .1)
 
 -- a drop count has two numbers of the slice for each
-drop-count : (m : Model) (range : Bool) (k : Key) (out : List ℤ) → 2 * countOf (dropAnswer m range k out) ≤ length out
-unfolding dropAnswer dropRefusal
-drop-count m true k out = omega arith
-drop-count m false k out = go (ltb (length out) (2 * length (matching k (m .requests)))) refl
+drop-count : (t : Table) (gone base : ℕ) (out : List ℤ) → 2 * countOf (dropOf t gone base out .answer) ≤ length out
+unfolding dropOf
+drop-count t gone base out = go (ltb (length out) (2 * length (leaving t gone))) refl
   where
-    go : (b : Bool) → ltb (length out) (2 * length (matching k (m .requests))) ≡ b → 2 * countOf (dropAnswer m false k out) ≤ length out
+    go : (b : Bool) → ltb (length out) (2 * length (leaving t gone)) ≡ b → 2 * countOf (dropOf t gone base out .answer) ≤ length out
     go true e = rw e (omega arith)
     go false e = rw e (ltb-false _ _ e)
 
 pub closed-count : (t : Table) (l : ℕ) (out : List ℤ) → 2 * countOf (closedOf t l out .answer) ≤ length out
-unfolding closedOf dropOf
-closed-count t l out = drop-count (modelOf t) (noLink l) (Closed l) out
+unfolding closedOf
+closed-count t l out = go (leb 32 l) refl
+  where
+    go : (b : Bool) → leb 32 l ≡ b → 2 * countOf (closedOf t l out .answer) ≤ length out
+    go true e = rw e (omega arith)
+    go false e = rw e (drop-count t (linked t l) 64 out)
 
 pub lost-count : (t : Table) (p : ℕ) (out : List ℤ) → 2 * countOf (lostOf t p out .answer) ≤ length out
-unfolding lostOf dropOf
-lost-count t p out = drop-count (modelOf t) (noPublisher p) (Lost p) out
+unfolding lostOf
+lost-count t p out = go (leb 8 p) refl
+  where
+    go : (b : Bool) → leb 8 p ≡ b → 2 * countOf (lostOf t p out .answer) ≤ length out
+    go true e = rw e (omega arith)
+    go false e = rw e (drop-count t (mine t p) 0 out)
 
 -- the turn of an event that is known in other words
 pub event-is : {e f : Event} {r : Turned} {d₁ : List ℕ} (t : Table) (d : List ℕ) → f ≡ e → (r ≡ turnOf t e) × (d₁ ≡ sets d 0 (linesOf t e))

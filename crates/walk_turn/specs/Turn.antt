@@ -1,15 +1,14 @@
--- One event of the relay walk (document 01, "Program: relay walk"), on any table: its lines, and the table after it.
--- Assumes nothing.
+-- One event of the relay walk (document 01, "Program: relay walk"), on any contents of the table: its lines, and the
+-- table after it. Assumes nothing.
 use Prim.Native.Nat.{ℕ}
 use mathlib.Core.List.{List}
 use lib.IntN.{ℤ, pos}
 use lib.ListN.{length, replicate}
 use Rattle.inflight.specs.Calls.{ask, reply, cancel, closed, lost, tableHeard, tableAfter}
-use Rattle.inflight.specs.declared.Table.{Table}
+use Rattle.inflight.specs.Tables.{Table}
 use Rattle.walk_turn.specs.Lines.{callLines, refusedLine}
 use Rattle.walk_turn.specs.declared.Event.{Event}
 use Rattle.walk_turn.specs.declared.Event.the-variants.{Ask, Reply, Cancel, Closed, Lost, End, Cut, Unknown}
-use Rattle.walk_turn.specs.declared.Turned.{Turned}
 
 -- the slice that closed and lost are lent: two numbers for each of 64 requests
 abbrev pub lentSlice : List ℤ
@@ -36,6 +35,11 @@ afterEvent t (Lost p) = tableAfter t (lost p lentSlice)
 afterEvent t End = t
 afterEvent t Cut = t
 afterEvent t Unknown = t
+
+-- the table after an event, and the size of its lines
+pub record Turned : Type 0 where
+  pub table : Table
+  pub size : ℕ
 
 unfoldable pub turnOf : Table → Event → Turned
 turnOf t e = record { table = afterEvent t e; size = length (linesOf t e) }

@@ -1,14 +1,13 @@
-// One event of the relay walk: the call that it names is made on a table of requests in flight, and the lines that tell the answer are written.
-// It never reads or writes a file: the caller lends the room for the lines, and keeps the table.
-// `turn` is the one call. `Event` is an event that was read, `Turned` its answer; crate `walk` reads events from bytes and turns them one by one.
-// It is total: every table value, every event and any room have the answer that specs/Turn.antt gives.
-// specs/Lines.antt has the lines.
+// One event of the relay walk: the call that it names is made on a table of requests in flight, and the lines that
+// tell the answer are written. It never reads or writes a file: the caller lends the table, as the four arrays of
+// crate `inflight`, and the room for the lines. `turn` is the one call. `Event` is an event that was read; crate
+// `walk` reads events from bytes and turns them one by one. It is total: any contents of the table, every event and
+// any room have the answer that specs/Turn.antt gives. specs/Lines.antt has the lines.
 mod lines;
 mod turns;
 
 use inflight::FrontNumber;
 use inflight::PublisherNumber;
-use inflight::Table;
 pub use turns::turn;
 
 // What stands at the front of some event bytes.
@@ -24,10 +23,4 @@ pub enum Event {
     Cut,
     // A kind byte that is none of the five.
     Unknown,
-}
-
-// A call's table, and the size of the lines that tell its answer.
-pub struct Turned {
-    pub table: Table,
-    pub size: usize,
 }

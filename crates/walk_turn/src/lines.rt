@@ -1,4 +1,5 @@
-// Lines of text, stored in a lent slice from a place on. What does not fit is left out; each call hands back the place after its text.
+// Lines of text, stored in a lent slice from a place on. What does not fit is left out; each call hands back the
+// place after its text.
 use store_bytes::copy;
 ghost use mathlib.Core.Path.{_≡_};
 ghost use mathlib.Core.List.{[], _∷_};
@@ -64,7 +65,8 @@ fn put_signed(out: &mut [u8], at: usize, n: i64) -> usize
 // A line of a word and a number. The word has its space.
 pub(crate) fn put_line(out: &mut [u8], at: usize, word: &[u8], n: i64) -> usize
     requires { ⌜ (at ≤ 65536) × (length (now word) ≤ 8) ⌝ }
-    ensures { λ r. ⌜ (r ≡ at + length (line (now (word .entry)) n)) × (now (out .exit) ≡ sets (now (out .entry)) at (line (now (word .entry)) n)) ⌝ }
+    ensures { λ r. ⌜ (r ≡ at + length (line (now (word .entry)) n))
+        × (now (out .exit) ≡ sets (now (out .entry)) at (line (now (word .entry)) n)) ⌝ }
 {
     copy(out, at, word);
     let to = at + word.len();
@@ -76,7 +78,8 @@ pub(crate) fn put_line(out: &mut [u8], at: usize, word: &[u8], n: i64) -> usize
 // A line of a word and two numbers.
 pub(crate) fn put_pair(out: &mut [u8], at: usize, word: &[u8], a: i64, b: i64) -> usize
     requires { ⌜ (at ≤ 65536) × (length (now word) ≤ 8) ⌝ }
-    ensures { λ r. ⌜ (r ≡ at + length (pairLine (now (word .entry)) a b)) × (now (out .exit) ≡ sets (now (out .entry)) at (pairLine (now (word .entry)) a b)) ⌝ }
+    ensures { λ r. ⌜ (r ≡ at + length (pairLine (now (word .entry)) a b))
+        × (now (out .exit) ≡ sets (now (out .entry)) at (pairLine (now (word .entry)) a b)) ⌝ }
 {
     copy(out, at, word);
     let to = at + word.len();
@@ -106,7 +109,8 @@ fn number_at(ends: &[i64], at: usize) -> i64
 // The line of the i-th dropped request, whose other end is two numbers.
 fn put_drop(out: &mut [u8], at: usize, ends: &[i64], i: usize) -> usize
     requires { ⌜ (at ≤ 65536) × (i < 64) ⌝ }
-    ensures { λ r. ⌜ (r ≡ at + length (dropLine (now (ends .entry)) i)) × (now (out .exit) ≡ sets (now (out .entry)) at (dropLine (now (ends .entry)) i)) ⌝ }
+    ensures { λ r. ⌜ (r ≡ at + length (dropLine (now (ends .entry)) i))
+        × (now (out .exit) ≡ sets (now (out .entry)) at (dropLine (now (ends .entry)) i)) ⌝ }
 {
     let a = number_at(ends, 2 * i);
     let b = number_at(ends, 2 * i + 1);
@@ -116,7 +120,8 @@ fn put_drop(out: &mut [u8], at: usize, ends: &[i64], i: usize) -> usize
 // The lines of the first n dropped requests.
 pub(crate) fn put_drops(out: &mut [u8], at: usize, ends: &[i64], n: usize) -> usize
     requires { ⌜ (at ≤ 64) × (n ≤ 64) ⌝ }
-    ensures { λ r. ⌜ (r ≡ at + length (dropLines n (now (ends .entry)))) × (now (out .exit) ≡ sets (now (out .entry)) at (dropLines n (now (ends .entry)))) ⌝ }
+    ensures { λ r. ⌜ (r ≡ at + length (dropLines n (now (ends .entry))))
+        × (now (out .exit) ≡ sets (now (out .entry)) at (dropLines n (now (ends .entry)))) ⌝ }
 {
     let mut to = at;
     let mut i: usize = 0;

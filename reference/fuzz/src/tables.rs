@@ -1,13 +1,16 @@
 //! Random lists of calls on a table, with few links and numbers, so that they
-//! meet; drops into slices that are too short now and then.
+//! meet, or with 48 to 64 requests in flight; drops into slices that are too
+//! short now and then. After each call the table's members are held against one
+//! another too.
 
 use crate::compare::{same, Compared};
 use crate::counts::Counts;
-use crate::draw::{coin, one_in};
+use crate::draw::{array, coin, one_in};
 use reference::generator::Generator;
 use reference::refusal::Refusal;
-use reference::table::Table;
-use relay::{FrontNumber, PublisherNumber};
+use reference::table::{End, Request, Table};
+use relay::{raw, FrontNumber, PublisherNumber};
+use std::collections::HashMap;
 
 /// How wide a list draws, and what it does how often.
 struct Profile {
@@ -18,10 +21,13 @@ struct Profile {
     replies: u64,
     cancels: u64,
     drops: u64,
+    /// With fewer in flight, every call is an ask.
+    fewest: usize,
 }
 
-/// Narrow and busy, wide and full, and a few publishers that fill up.
-const PROFILES: [Profile; 4] = [
+/// Narrow and busy, wide and full, a few publishers that fill up, and a crowd
+/// of 48 and more.
+const PROFILES: [Profile; 5] = [
     Profile {
         links: 3,
         numbers: 6,
@@ -29,6 +35,7 @@ const PROFILES: [Profile; 4] = [
         replies: 20,
         cancels: 15,
         drops: 8,
+        fewest: 0,
     },
     Profile {
         links: 32,
@@ -37,6 +44,7 @@ const PROFILES: [Profile; 4] = [
         replies: 15,
         cancels: 8,
         drops: 1,
+        fewest: 0,
     },
     Profile {
         links: 8,
@@ -45,6 +53,7 @@ const PROFILES: [Profile; 4] = [
         replies: 8,
         cancels: 5,
         drops: 1,
+        fewest: 0,
     },
     Profile {
         links: 4,
@@ -53,13 +62,29 @@ const PROFILES: [Profile; 4] = [
         replies: 25,
         cancels: 10,
         drops: 3,
+        fewest: 0,
+    },
+    Profile {
+        links: 32,
+        numbers: 1000,
+        publishers: 8,
+        replies: 28,
+        cancels: 15,
+        drops: 2,
+        fewest: 48,
     },
 ];
 
 struct Both {
     ours: relay::Table,
     second: Table,
+    /// The front ends of the requests in flight, oldest accepted first.
+    fronts: Vec<End>,
 }
+
+/// The words of a call.
+trait Call: Fn() -> String + Copy {}
+impl<T: Fn() -> String + Copy> Call for T {}
 
 /// What a call hands back: two numbers at most.
 type Answer = Result<(i64, i64), u8>;
@@ -71,7 +96,7 @@ fn number(refusal: Refusal) -> u8 {
 pub fn case(g: &mut Generator, counts: &mut Counts) -> Compared {
     let random = g.draw() as i64;
     let first = g.pick(&[1, 1, 2, i64::MAX, i64::MAX - 5, random, 0, -1, i64::MIN]);
-    let ours = relay::Table::new(PublisherNumber(first)).map_err(|r| r.number());
+    let ours = fresh(g, first);
     let second = Table::fresh(first).map_err(number);
     let answers = (ours.as_ref().err(), second.as_ref().err());
     let call = || format!("fresh {first}");
@@ -80,12 +105,42 @@ pub fn case(g: &mut Generator, counts: &mut Counts) -> Compared {
     let (Ok(ours), Ok(second)) = (ours, second) else {
         return Ok(());
     };
-    let mut both = Both { ours, second };
+    let fronts = Vec::new();
+    let mut both = Both {
+        ours,
+        second,
+        fronts,
+    };
     let profile = &PROFILES[g.below(PROFILES.len() as u64) as usize];
     for _ in 0..g.pick(&[10, 100, 200, 300]) {
         both.call(g, profile, counts)?;
+        counts.add("in flight", Ok(crowd(both.second.count())));
     }
     both.end(counts)
+}
+
+/// A new table, or one that starts anew where garbage stood; a refusal leaves
+/// that as it was.
+fn fresh(g: &mut Generator, first: i64) -> Result<relay::Table, u8> {
+    let first = PublisherNumber(first);
+    if coin(g) {
+        return relay::Table::new(first).map_err(|r| r.number());
+    }
+    let mut table = relay::Table::new(PublisherNumber(1)).expect("1 is a first number");
+    let garbage = raw::Table {
+        masks: std::array::from_fn(|_| g.draw()),
+        numbers: std::array::from_fn(|_| g.draw() as i64),
+        places: array(g),
+        order: array(g),
+    };
+    *table.raw() = garbage;
+    match raw::relay_fresh(table.raw(), first) {
+        0 => Ok(table),
+        refusal => {
+            assert_eq!(*table.raw(), garbage);
+            Err(refusal)
+        }
+    }
 }
 
 impl Both {
@@ -103,12 +158,16 @@ impl Both {
             replies,
             cancels,
             drops,
+            fewest,
             ..
         } = *profile;
-        if roll < replies {
+        if self.second.count() < fewest {
+            self.ask(link, front, publisher, counts)
+        } else if roll < replies {
             let (publisher, number) = self.reply_to(g, publisher);
             self.reply(publisher, number, counts)
         } else if roll < replies + cancels {
+            let (link, front) = self.cancel_of(g, (link, front));
             self.cancel(link, front, counts)
         } else if roll < replies + cancels + drops {
             let room = g.pick(&[0, 1, 3, 4, 8, 31, 32, 128]);
@@ -124,14 +183,11 @@ impl Both {
 
     /// Mostly what is in flight.
     fn reply_to(&self, g: &mut Generator, publisher: u8) -> (u8, i64) {
-        let count = self.second.count() as u64;
-        if count == 0 || one_in(g, 8) {
+        if self.second.count() == 0 || one_in(g, 8) {
             let random = g.draw() as i64;
             return (publisher, g.pick(&[0, 1, 2, 5, -1, i64::MAX, random]));
         }
-        let nth = g.below(count) as usize;
-        let request = self.second.in_flight().nth(nth).expect("one in flight");
-        let (publisher, number) = request.publisher;
+        let (publisher, number) = self.one_in_flight(g).publisher;
         // A number of another publisher, now and then.
         if one_in(g, 10) {
             ((publisher + 1) % 8, number)
@@ -140,7 +196,22 @@ impl Both {
         }
     }
 
+    /// What is in flight, or what was drawn.
+    fn cancel_of(&self, g: &mut Generator, drawn: End) -> End {
+        if self.second.count() == 0 || coin(g) {
+            drawn
+        } else {
+            self.one_in_flight(g).front
+        }
+    }
+
+    fn one_in_flight(&self, g: &mut Generator) -> &Request {
+        let nth = g.below(self.second.count() as u64) as usize;
+        self.second.in_flight().nth(nth).expect("one in flight")
+    }
+
     fn ask(&mut self, link: u8, front: i64, publisher: u8, counts: &mut Counts) -> Compared {
+        let before = *self.ours.raw();
         let ours = self.ours.ask(link, FrontNumber(front), publisher);
         let ours: Answer = ours.map(|n| (n.0, 0)).map_err(|r| r.number());
         let second = self.second.ask(link, front, publisher);
@@ -148,10 +219,12 @@ impl Both {
         counts.add("ask", second.map(|_| "accepted"));
         let call = || format!("ask {link}/{front}/{publisher}");
         same("an ask", call, ours, second)?;
-        self.same_requests(call)
+        self.fronts.extend(ours.is_ok().then_some((link, front)));
+        self.same_state(ours.is_err().then_some(before), call)
     }
 
     fn reply(&mut self, publisher: u8, number_: i64, counts: &mut Counts) -> Compared {
+        let before = *self.ours.raw();
         let ours = self.ours.reply(publisher, PublisherNumber(number_));
         let ours: Answer = ours
             .map(|(link, n)| (link.into(), n.0))
@@ -161,10 +234,11 @@ impl Both {
         counts.add("reply", second.map(|_| "front"));
         let call = || format!("reply {publisher}/{number_}");
         same("a reply", call, ours, second)?;
-        self.same_requests(call)
+        self.same_state(ours.is_err().then_some(before), call)
     }
 
     fn cancel(&mut self, link: u8, front: i64, counts: &mut Counts) -> Compared {
+        let before = *self.ours.raw();
         let ours = self.ours.cancel(link, FrontNumber(front));
         let ours: Answer = ours
             .map(|(publisher, n)| (publisher.into(), n.0))
@@ -176,22 +250,24 @@ impl Both {
         counts.add("cancel", second.map(|_| "publisher"));
         let call = || format!("cancel {link}/{front}");
         same("a cancel", call, ours, second)?;
-        self.same_requests(call)
+        self.same_state(ours.is_err().then_some(before), call)
     }
 
     fn closed(&mut self, link: u8, room: usize, counts: &mut Counts) -> Compared {
         let (mut our_out, mut out) = ([-7; 130], [-7; 130]);
+        let before = *self.ours.raw();
         let ours = self.ours.closed(link, &mut our_out[..room]);
         let ours = ours.map(|ends| ends.len()).map_err(|r| r.number());
         let second = self.second.closed(link, &mut out[..room]).map_err(number);
         counts.add("closed", second.map(some));
         let call = || format!("closed {link}, room {room}");
         same("a closed link", call, (ours, our_out), (second, out))?;
-        self.same_requests(call)
+        self.same_state(ours.is_err().then_some(before), call)
     }
 
     fn lost(&mut self, publisher: u8, room: usize, counts: &mut Counts) -> Compared {
         let (mut our_out, mut out) = ([-7; 130], [-7; 130]);
+        let before = *self.ours.raw();
         let ours = self.ours.lost(publisher, &mut our_out[..room]);
         let ours = ours.map(|ends| ends.len()).map_err(|r| r.number());
         let second = self.second.lost(publisher, &mut out[..room]);
@@ -199,25 +275,37 @@ impl Both {
         counts.add("lost", second.map(some));
         let call = || format!("lost {publisher}, room {room}");
         same("a lost publisher", call, (ours, our_out), (second, out))?;
+        self.same_state(ours.is_err().then_some(before), call)
+    }
+
+    /// The table after a call; what it was before, where the call was refused.
+    fn same_state(&mut self, refused: Option<raw::Table>, call: impl Call) -> Compared {
+        if let Some(before) = refused {
+            same(
+                "the table of a refused call",
+                call,
+                *self.ours.raw(),
+                before,
+            )?;
+        }
+        holds_together(self.ours.raw(), self.second.count(), call)?;
         self.same_requests(call)
     }
 
-    /// The requests in flight; the second program's have no order, which shows
-    /// in closed and lost.
-    fn same_requests(&mut self, call: impl FnOnce() -> String) -> Compared {
+    /// The requests in flight, oldest first; the second program's have no order
+    /// but that in which they were asked.
+    fn same_requests(&mut self, call: impl Call) -> Compared {
         let table = self.ours.raw();
-        let mut ours: Vec<_> = table.requests[..table.count]
-            .iter()
-            .map(|r| (r.link, r.front.0, r.publisher, r.number.0))
-            .collect();
-        let mut second: Vec<_> = self
-            .second
-            .in_flight()
-            .map(|r| (r.front.0, r.front.1, r.publisher.0, r.publisher.1))
-            .collect();
-        ours.sort_unstable();
-        second.sort_unstable();
-        same("the requests in flight", call, ours, second)
+        let end = |i: usize| (table.places[i], table.numbers[i]);
+        let ours = oldest_first(table)
+            .into_iter()
+            .map(|i| (end(i), end(64 + i)))
+            .collect::<Vec<_>>();
+        let ends = self.second.in_flight().map(|r| (r.front, r.publisher));
+        let ends: HashMap<End, End> = ends.collect();
+        self.fronts.retain(|front| ends.contains_key(front));
+        let second = self.fronts.iter().map(|front| (*front, ends[front]));
+        same("the requests in flight", call, ours, second.collect())
     }
 
     /// All publishers are lost, and each is asked once more.
@@ -227,6 +315,51 @@ impl Both {
             self.ask(publisher, 1, publisher, counts)?;
         }
         Ok(())
+    }
+}
+
+/// The used slots, by their places in the order of acceptance.
+fn oldest_first(table: &raw::Table) -> Vec<usize> {
+    let used = (0..64).filter(|i| table.masks[0] >> i & 1 == 1);
+    let mut used: Vec<usize> = used.collect();
+    used.sort_unstable_by_key(|&i| table.order[i]);
+    used
+}
+
+/// What a table's members say of one another: as many ones as requests, each
+/// used slot with one publisher, and with a place of its own, from 0 on.
+fn holds_together(table: &raw::Table, count: usize, call: impl Call) -> Compared {
+    let [used, of_publishers @ ..] = table.masks;
+    same("used slots", call, used.count_ones() as usize, count)?;
+    let all = of_publishers.iter().fold(0, |all, mask| all | mask);
+    let ones = of_publishers.iter().map(|mask| mask.count_ones() as usize);
+    same(
+        "slots of publishers",
+        call,
+        (all, ones.sum()),
+        (used, count),
+    )?;
+    let places = oldest_first(table)
+        .into_iter()
+        .map(|i| usize::from(table.order[i]))
+        .collect::<Vec<_>>();
+    same("places of used slots", call, places, (0..count).collect())?;
+    for (publisher, mask) in of_publishers.into_iter().enumerate() {
+        let here = |i: &usize| usize::from(table.places[64 + i]) == publisher;
+        let slots = (0..64).filter(|i| used >> i & 1 == 1).filter(here);
+        let slots = slots.fold(0, |all, i| all | 1 << i);
+        same("slots of a publisher", call, mask, slots)?;
+    }
+    Ok(())
+}
+
+/// How full a table is.
+fn crowd(count: usize) -> &'static str {
+    match count {
+        0..16 => "0 to 15",
+        16..48 => "16 to 47",
+        48..64 => "48 to 63",
+        _ => "64",
     }
 }
 

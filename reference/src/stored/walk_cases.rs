@@ -7,6 +7,7 @@
 
 use super::walk_scripts as scripts;
 use super::walk_scripts::Script;
+use super::walk_slots;
 use crate::event::Event;
 use crate::numbers::{read_i64, read_u32};
 use crate::table::{Table, ROOM};
@@ -43,6 +44,8 @@ pub fn input() -> Vec<u8> {
     runs.push(1, Script::default());
     bad_events(&mut runs);
     random_runs(&mut runs);
+    runs.push(-5, scripts::example());
+    walk_slots::push(&mut runs);
     // The last run is one that is skipped, so that its end is the input's.
     runs.push(-5, scripts::example());
     runs.bytes
@@ -90,12 +93,12 @@ fn random(seed: u64, first: i64, profile: Profile, count: usize) -> Script {
 }
 
 #[derive(Default)]
-struct Runs {
-    bytes: Vec<u8>,
+pub struct Runs {
+    pub bytes: Vec<u8>,
 }
 
 impl Runs {
-    fn push(&mut self, first: i64, events: Script) {
+    pub fn push(&mut self, first: i64, events: Script) {
         self.bytes.extend(first.to_le_bytes());
         self.bytes.extend((events.bytes.len() as u32).to_le_bytes());
         self.bytes.extend(events.bytes);
@@ -126,6 +129,13 @@ fn walk_run(first: i64, mut events: &[u8], lines: &mut Vec<u8>) {
 #[cfg(test)]
 mod tests {
     use super::*;
+    use crate::checksum::CRC32;
+
+    /// What was stored before the table had slots and masks: size and CRC-32
+    /// of input and output, and the lines.
+    const OLD_INPUT: (usize, u32) = (218_362, 0x466A_30A0);
+    const OLD_OUTPUT: (usize, u32) = (274_858, 0x5417_D2F6);
+    const OLD_LINES: usize = 25_613;
 
     const EXAMPLE: &str = "ask 1\nno 31\nask 2\nreply 4 77\nno 34\ncancel 0 1\n\
                            ask 3\nno 12\nlost 1\ndrop 3 77\nclosed 0\n";
@@ -149,6 +159,22 @@ mod tests {
         assert!(count("closed 64") > 0 && count("lost 16") > 0);
         assert!(count("closed 0") > 0 && count("lost 0") > 0);
         assert!(count(&format!("ask {TOP}")) > 0);
+    }
+
+    #[test]
+    fn the_old_runs_stay_in_front() {
+        let (input, output) = (input(), output(&input()));
+        for (bytes, (size, sum)) in [(&input, OLD_INPUT), (&output, OLD_OUTPUT)] {
+            assert_eq!(CRC32.of(&bytes[..size]), sum);
+        }
+        let (old, new) = output.split_at(OLD_OUTPUT.0);
+        let lines = |text: &[u8]| text.iter().filter(|&&byte| byte == b'\n').count();
+        assert_eq!(lines(old), OLD_LINES);
+        assert!(new.starts_with(b"run 1\n"));
+        // No changed rule: the old input alone gives the old output.
+        assert!(super::output(&input[..OLD_INPUT.0]) == old);
+        assert!(input.len() - OLD_INPUT.0 < 121_000, "{}", input.len());
+        assert!(lines(new) < 30_000, "{}", lines(new));
     }
 
     #[test]

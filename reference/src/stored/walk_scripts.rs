@@ -59,7 +59,7 @@ impl Script {
 }
 
 /// The number `steps` after `first`; after the largest comes 1.
-fn nth(first: i64, steps: i64) -> i64 {
+pub fn nth(first: i64, steps: i64) -> i64 {
     let to_largest = i64::MAX - first;
     if steps <= to_largest {
         first + steps

@@ -45,10 +45,133 @@ extern "C" {
     pub fn relay_encipher(buf: *mut u8, n: usize, keys: RoundKeys, vector: Vector) -> Chained;
     pub fn relay_decipher(buf: *mut u8, n: usize, keys: RoundKeys, vector: Vector) -> Chained;
 
-    pub fn relay_fresh(first: PublisherNumber) -> Started;
-    pub fn relay_ask(table: *mut Table, link: u8, number: FrontNumber, publisher: u8) -> Asked;
-    pub fn relay_reply(table: *mut Table, publisher: u8, number: PublisherNumber) -> Replied;
-    pub fn relay_cancel(table: *mut Table, link: u8, number: FrontNumber) -> Cancelled;
-    pub fn relay_closed(table: *mut Table, link: u8, out: *mut i64, n: usize) -> Dropped;
-    pub fn relay_lost(table: *mut Table, publisher: u8, out: *mut i64, n: usize) -> Dropped;
+    pub fn relay_fresh_lent(
+        masks: *mut [u64; 9],
+        numbers: *mut [i64; 136],
+        first: PublisherNumber,
+    ) -> u8;
+    pub fn relay_ask_lent(
+        masks: *mut [u64; 9],
+        numbers: *mut [i64; 136],
+        places: *mut [u8; 128],
+        order: *mut [u8; 64],
+        link: u8,
+        number: FrontNumber,
+        publisher: u8,
+    ) -> Asked;
+    pub fn relay_reply_lent(
+        masks: *mut [u64; 9],
+        numbers: *const [i64; 136],
+        places: *const [u8; 128],
+        order: *mut [u8; 64],
+        publisher: u8,
+        number: PublisherNumber,
+    ) -> Replied;
+    pub fn relay_cancel_lent(
+        masks: *mut [u64; 9],
+        numbers: *const [i64; 136],
+        places: *const [u8; 128],
+        order: *mut [u8; 64],
+        link: u8,
+        number: FrontNumber,
+    ) -> Cancelled;
+    pub fn relay_closed_lent(
+        masks: *mut [u64; 9],
+        numbers: *const [i64; 136],
+        places: *const [u8; 128],
+        order: *mut [u8; 64],
+        link: u8,
+        out: *mut i64,
+        n: usize,
+    ) -> Dropped;
+    pub fn relay_lost_lent(
+        masks: *mut [u64; 9],
+        numbers: *const [i64; 136],
+        places: *const [u8; 128],
+        order: *mut [u8; 64],
+        publisher: u8,
+        out: *mut i64,
+        n: usize,
+    ) -> Dropped;
+}
+
+// A table's calls: they lend its four arrays where they stand and copy none, as
+// the inline functions of include/relay.h do.
+
+pub fn relay_fresh(t: &mut Table, first: PublisherNumber) -> u8 {
+    // SAFETY: the arrays are borrowed.
+    unsafe { relay_fresh_lent(&mut t.masks, &mut t.numbers, first) }
+}
+
+pub fn relay_ask(t: &mut Table, link: u8, number: FrontNumber, publisher: u8) -> Asked {
+    // SAFETY: the arrays are borrowed, each once.
+    unsafe {
+        relay_ask_lent(
+            &mut t.masks,
+            &mut t.numbers,
+            &mut t.places,
+            &mut t.order,
+            link,
+            number,
+            publisher,
+        )
+    }
+}
+
+pub fn relay_reply(t: &mut Table, publisher: u8, number: PublisherNumber) -> Replied {
+    // SAFETY: the arrays are borrowed, each once.
+    unsafe {
+        relay_reply_lent(
+            &mut t.masks,
+            &t.numbers,
+            &t.places,
+            &mut t.order,
+            publisher,
+            number,
+        )
+    }
+}
+
+pub fn relay_cancel(t: &mut Table, link: u8, number: FrontNumber) -> Cancelled {
+    // SAFETY: the arrays are borrowed, each once.
+    unsafe {
+        relay_cancel_lent(
+            &mut t.masks,
+            &t.numbers,
+            &t.places,
+            &mut t.order,
+            link,
+            number,
+        )
+    }
+}
+
+pub fn relay_closed(t: &mut Table, link: u8, out: &mut [i64]) -> Dropped {
+    // SAFETY: the arrays are borrowed, each once; the pointer and length are a slice's.
+    unsafe {
+        relay_closed_lent(
+            &mut t.masks,
+            &t.numbers,
+            &t.places,
+            &mut t.order,
+            link,
+            out.as_mut_ptr(),
+            out.len(),
+        )
+    }
+}
+
+pub fn relay_lost(t: &mut Table, publisher: u8, out: &mut [i64]) -> Dropped {
+    // SAFETY: the arrays are borrowed, each once; the pointer and length are a slice's.
+    unsafe {
+        relay_lost_lent(
+            &mut t.masks,
+            &t.numbers,
+            &t.places,
+            &mut t.order,
+            publisher,
+            out.as_mut_ptr(),
+            out.len(),
+        )
+    }
 }

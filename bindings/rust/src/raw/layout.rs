@@ -3,7 +3,7 @@
 
 use super::structs::*;
 use crate::keys::{End, Ends, INIT_MESSAGE_MOST};
-use crate::{packet_type as t, FrontNumber, NetPid, NetPids, PublisherNumber, Refusal};
+use crate::{packet_type as t, FrontNumber, NetPid, NetPids, PublisherNumber, Refusal, ALL_ENDS};
 use std::mem::{offset_of, size_of};
 use std::path::Path;
 use std::process::Command;
@@ -168,23 +168,14 @@ fn structs() -> Vec<String> {
         lines!(relay_front_number, FrontNumber { value: 0 }),
         lines!(relay_publisher_number, PublisherNumber { value: 0 }),
         lines!(
-            relay_request,
-            Request {
-                front,
-                number,
-                link,
-                publisher
-            }
-        ),
-        lines!(
             relay_table,
             Table {
-                requests,
-                count,
-                next
+                masks,
+                numbers,
+                places,
+                order
             }
         ),
-        lines!(relay_started, Started { refusal, table }),
         lines!(relay_asked, Asked { refusal, number }),
         lines!(
             relay_replied,
@@ -226,8 +217,11 @@ fn constants() -> Vec<String> {
     let types = types
         .iter()
         .map(|(name, value)| format!("IS(RELAY_{name}, {value:#010x})"));
-    let most = format!("IS(RELAY_INIT_MESSAGE_MOST, {INIT_MESSAGE_MOST})");
-    refusals.chain(types).chain([most]).collect()
+    let lengths = [
+        format!("IS(RELAY_INIT_MESSAGE_MOST, {INIT_MESSAGE_MOST})"),
+        format!("IS(RELAY_ALL_ENDS, {ALL_ENDS})"),
+    ];
+    refusals.chain(types).chain(lengths).collect()
 }
 
 #[test]

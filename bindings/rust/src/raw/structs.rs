@@ -183,26 +183,11 @@ pub struct Chained {
 
 #[repr(C)]
 #[derive(Clone, Copy, Debug, PartialEq, Eq)]
-pub struct Request {
-    pub front: FrontNumber,
-    pub number: PublisherNumber,
-    pub link: u8,
-    pub publisher: u8,
-}
-
-#[repr(C)]
-#[derive(Clone, Copy, Debug, PartialEq, Eq)]
 pub struct Table {
-    pub requests: [Request; 64],
-    pub count: usize,
-    pub next: [PublisherNumber; 8],
-}
-
-#[repr(C)]
-#[derive(Clone, Copy, Debug, PartialEq, Eq)]
-pub struct Started {
-    pub refusal: u8,
-    pub table: Table,
+    pub masks: [u64; 9],
+    pub numbers: [i64; 136],
+    pub places: [u8; 128],
+    pub order: [u8; 64],
 }
 
 #[repr(C)]

@@ -6,10 +6,10 @@ use Rattle.walk_check.proofs.print_walk.Statement.{statement}
 use Rattle.walk_check.proofs.print_walk.Tie as tie
 
 abbrev Inv-loop : tie.InvT-loop
-Inv-loop events out₀ t₀ at₀ turns₀ out t at turns = length out ≡ length out₀
+Inv-loop masks₀ numbers₀ places₀ order₀ events out₀ at₀ turns₀ masks numbers places order out at turns = length out ≡ length out₀
 
 abbrev μ-loop : tie.MeasureT-loop
-μ-loop events out₀ t₀ at₀ turns₀ out t at turns = turns
+μ-loop masks₀ numbers₀ places₀ order₀ events out₀ at₀ turns₀ masks numbers places order out at turns = turns
 
 loop-holds : tie.Need-loop-holds Inv-loop μ-loop
 loop-holds c = search needs

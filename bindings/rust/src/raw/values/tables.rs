@@ -1,80 +1,111 @@
-//! Table, Request, Started, Asked, Replied, Cancelled, Dropped.
+//! Table, Asked, Replied, Cancelled, Dropped.
+
+mod defined;
+mod garbage;
+mod places;
+#[path = "../../../tests/common/random.rs"]
+mod random;
+mod slots;
 
 use super::*;
 use crate::{FrontNumber, PublisherNumber};
 
 const FIRST: i64 = 0x0102_0304_0506_0708;
 
-fn request(link: u8, front: i64, publisher: u8, number: i64) -> Request {
-    Request {
-        link,
-        front: FrontNumber(front),
-        publisher,
-        number: PublisherNumber(number),
-    }
-}
+const EMPTY: Table = Table {
+    masks: [0; 9],
+    numbers: [0; 136],
+    places: [0; 128],
+    order: [0; 64],
+};
 
 fn fresh() -> Table {
-    let started = unsafe { relay_fresh(PublisherNumber(FIRST)) };
-    assert_eq!(started.refusal, 0);
-    started.table
+    let mut table = EMPTY;
+    assert_eq!(relay_fresh(&mut table, PublisherNumber(FIRST)), 0);
+    table
 }
 
-/// A table by hand: 64 requests, all their fields different.
+/// A request of `full`: link, front number, publisher, publisher number.
+fn request(i: usize) -> (u8, i64, u8, i64) {
+    let n = i as i64;
+    (i as u8 % 32, 1000 + n, i as u8 % 8, 2000 + n)
+}
+
+/// The slot of a request of `full`: neither by age nor against it, nor its own
+/// inverse, so that a slot is never taken for a place.
+fn slot(i: usize) -> usize {
+    (11 * i + 63) % 64
+}
+
+/// A table by hand: 64 requests, from the oldest on, all their fields different.
 fn full() -> Table {
-    let requests = std::array::from_fn(|i| {
-        let n = i as i64;
-        request(i as u8 % 32, 1000 + n, i as u8 % 8, 2000 + n)
-    });
-    Table {
-        requests,
-        count: 64,
-        next: [PublisherNumber(1); 8],
+    let mut table = EMPTY;
+    table.masks[0] = u64::MAX;
+    table.numbers[128..].fill(1);
+    for i in 0..64 {
+        let slot = slot(i);
+        let (link, front, publisher, number) = request(i);
+        table.masks[1 + usize::from(publisher)] |= 1 << slot;
+        (table.numbers[slot], table.numbers[64 + slot]) = (front, number);
+        (table.places[slot], table.places[64 + slot]) = (link, publisher);
+        table.order[slot] = i as u8;
     }
+    table
+}
+
+/// The used slots, oldest first: they have the places from 0 on, each once.
+fn by_age(table: &Table) -> Vec<usize> {
+    let used = (0..64).filter(|i| table.masks[0] >> i & 1 == 1);
+    let mut used: Vec<usize> = used.collect();
+    used.sort_by_key(|&i| table.order[i]);
+    let places = used.iter().map(|&i| usize::from(table.order[i]));
+    assert!(places.eq(0..used.len()), "{:?}", table.order);
+    used
 }
 
 #[test]
 fn a_fresh_table() {
-    let empty = Table {
-        requests: [request(0, 0, 0, 0); 64],
-        count: 0,
-        next: [PublisherNumber(FIRST); 8],
-    };
+    let mut empty = EMPTY;
+    empty.numbers[128..].fill(FIRST);
     assert_eq!(fresh(), empty);
-    let refused = unsafe { relay_fresh(PublisherNumber(0)) };
-    assert_eq!(refused.refusal, 30);
-    assert_eq!(refused.table.next, [PublisherNumber(1); 8]);
+    let mut used = full();
+    assert_eq!(relay_fresh(&mut used, PublisherNumber(FIRST)), 0);
+    assert_eq!(used.masks, [0; 9]);
+    assert_eq!(used.numbers[..128], full().numbers[..128]);
+    assert_eq!(used.numbers[128..], [FIRST; 8]);
+    assert_eq!((used.places, used.order), (full().places, full().order));
 }
 
 #[test]
 fn asks_write_every_field() {
     let mut table = fresh();
+    table.order = [255; 64];
     let asks = [(31, -7, 5), (3, i64::MIN, 5), (9, 0x1112_1314_1516_1718, 7)];
     for (link, front, publisher) in asks {
-        let asked = unsafe { relay_ask(&mut table, link, FrontNumber(front), publisher) };
+        let asked = relay_ask(&mut table, link, FrontNumber(front), publisher);
         assert_eq!(asked.refusal, 0);
     }
-    let written = [
-        request(31, -7, 5, FIRST),
-        request(3, i64::MIN, 5, FIRST + 1),
-        request(9, 0x1112_1314_1516_1718, 7, FIRST),
-    ];
-    assert_eq!(table.requests[..3], written);
-    assert_eq!(table.count, 3);
+    assert_eq!(table.masks, [7, 0, 0, 0, 0, 0, 3, 0, 4]);
+    assert_eq!(table.numbers[..3], asks.map(|ask| ask.1));
+    assert_eq!(table.numbers[64..67], [FIRST, FIRST + 1, FIRST]);
     let mut next = [FIRST; 8];
     (next[5], next[7]) = (FIRST + 2, FIRST + 1);
-    assert_eq!(table.next, next.map(PublisherNumber));
+    assert_eq!(table.numbers[128..], next);
+    assert_eq!(table.places[..3], asks.map(|ask| ask.0));
+    assert_eq!(table.places[64..67], asks.map(|ask| ask.2));
+    assert_eq!(table.order[..3], [0, 1, 2]);
+    assert_eq!(table.order[3..], [255; 61]);
 }
 
 #[test]
 fn an_ask_answers_with_its_number() {
-    let asked = unsafe { relay_ask(&mut fresh(), 1, FrontNumber(5), 2) };
+    let asked = relay_ask(&mut fresh(), 1, FrontNumber(5), 2);
     let expected = Asked {
         refusal: 0,
         number: PublisherNumber(FIRST),
     };
     assert_eq!(asked, expected);
-    let asked = unsafe { relay_ask(&mut fresh(), 1, FrontNumber(0), 2) };
+    let asked = relay_ask(&mut fresh(), 1, FrontNumber(0), 2);
     let refused = Asked {
         refusal: 12,
         number: PublisherNumber(0),
@@ -85,37 +116,32 @@ fn an_ask_answers_with_its_number() {
 #[test]
 fn each_request_is_found_by_either_end() {
     for i in 0..64 {
-        let Request {
-            link,
-            front,
-            publisher,
-            number,
-        } = full().requests[i];
-        let replied = unsafe { relay_reply(&mut full(), publisher, number) };
+        let (link, front, publisher, number) = request(i);
+        let replied = relay_reply(&mut full(), publisher, PublisherNumber(number));
         let expected = Replied {
             refusal: 0,
             link,
-            number: front,
+            number: FrontNumber(front),
         };
         assert_eq!(replied, expected);
-        let cancelled = unsafe { relay_cancel(&mut full(), link, front) };
+        let cancelled = relay_cancel(&mut full(), link, FrontNumber(front));
         let expected = Cancelled {
             refusal: 0,
             publisher,
-            number,
+            number: PublisherNumber(number),
         };
         assert_eq!(cancelled, expected);
     }
-    let none = unsafe { relay_reply(&mut full(), 0, PublisherNumber(1)) };
+    let none = relay_reply(&mut full(), 0, PublisherNumber(1));
     assert_eq!((none.refusal, none.link, none.number.0), (34, 0, 0));
-    let none = unsafe { relay_cancel(&mut full(), 40, FrontNumber(1)) };
+    let none = relay_cancel(&mut full(), 40, FrontNumber(1));
     assert_eq!((none.refusal, none.publisher, none.number.0), (30, 0, 0));
 }
 
 #[test]
 fn drops_count_and_write() {
     let mut out = [-9; 6];
-    let dropped = unsafe { relay_closed(&mut full(), 31, out.as_mut_ptr(), 6) };
+    let dropped = relay_closed(&mut full(), 31, &mut out[..6]);
     let two = Dropped {
         refusal: 0,
         count: 2,
@@ -123,11 +149,11 @@ fn drops_count_and_write() {
     assert_eq!(dropped, two);
     assert_eq!(out, [7, 2031, 7, 2063, -9, -9]);
     let mut out = [-9; 17];
-    let dropped = unsafe { relay_lost(&mut full(), 6, out.as_mut_ptr(), 17) };
+    let dropped = relay_lost(&mut full(), 6, &mut out[..17]);
     assert_eq!((dropped.refusal, dropped.count), (0, 8));
     assert_eq!(out[..4], [6, 1006, 14, 1014]);
     assert_eq!(out[16], -9);
-    let dropped = unsafe { relay_lost(&mut full(), 6, out.as_mut_ptr(), 15) };
+    let dropped = relay_lost(&mut full(), 6, &mut out[..15]);
     let short = Dropped {
         refusal: 16,
         count: 0,

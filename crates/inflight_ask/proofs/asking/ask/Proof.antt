@@ -1,72 +1,175 @@
--- An ask: refused by the rules, refused for want of a place, or accepted behind the requests in flight.
+-- An ask that is refused changes nothing; else its arrays are those of `placed`, part by part.
+-- Assumes nothing.
+use Rattle.inflight_ask.proofs.AskingLaws.{ask-range, ask-eq, ask-yes, ask-turn}
 use borrow.Author.Needs.{needs}
-use borrow.Author.Tests.{le-leb, lt-leb, eq-eqb, ne-eqb}
-use mathlib.Core.Path.{_≡_, refl, sym, ap, _∙_}
-use mathlib.Core.List.{List, [], _∷_, _++_}
-use Prim.Native.Nat.{ℕ, _+_, _≤_, _<_}
+use borrow.Author.Tests.{eq-eqb, ne-eqb, le-leb}
+use mathlib.Core.Path.{_≡_, sym, ap, _∙_}
+use Prim.Native.Nat.{ℕ, _+_, _-_, _^_}
 use native.Mathlib.Omega.{arith}
-use lib.ListN.{length, drop, set, length-append, take-append-drop}
-use Rattle.inflight.specs.Matching.{blank}
-use Rattle.inflight.specs.Model.{askRefusal, given, entry, accept}
-use Rattle.inflight.specs.Tables.{inFlight, modelOf, store, askRefusalOf, askOf}
-use Rattle.inflight.specs.declared.Request.{Request}
-use Rattle.inflight.proofs.MatchLaws.{put-next, table-eq}
-use Rattle.inflight_ask.proofs.AcceptLaws.{ask-range, asked-eq}
+use lib.IntN.{ℤ, pos}
+use lib.ListN.{getD}
+use lib.Count.{ones}
+use mir.Syntax.{w64}
+use mir.Val.{SFits, ofZ, toZ}
+use mir.Facts.{toZ-ofZ}
+use Rattle.inflight.specs.Masks.{lowestFree}
+use Rattle.inflight.proofs.MaskLaws.{slot-low}
+use Rattle.inflight.specs.Tables.{Table, freeOf, askRefusalOf, askOf, used, mine, givenOf}
 use Rattle.inflight_ask.proofs.asking.ask.Statement.{statement}
 use Rattle.inflight_ask.proofs.asking.ask.Tie as tie
 
+ask-refusal-requires : tie.Need-ask-refusal-requires
+ask-refusal-requires c κs = search needs
+
 returns : tie.Need-returns
-unfolding askOf askRefusalOf
-returns c =
-    let e = c .before .ask-refusal .ensures in
-    let f = ne-eqb _ 0 (λ q. c .if1 .taken (e ∙ q)) in
-    rw (f, f, ← e)
+unfolding askOf
+returns c = let e = c .before .ask-refusal .ensures in rw (ne-eqb _ 0 (λ q. c .if1 .taken (e ∙ q)), ← e)
+
+element-copy-out-used : tie.Need-element-copy-out-used
+element-copy-out-used c = search needs
+
+lowest-free-requires : tie.Need-lowest-free-requires
+lowest-free-requires c κs = search needs
 
 returns-2 : tie.Need-returns-2
-unfolding askOf askRefusalOf
-returns-2 c =
-    let e = c .before .before .before .ask-refusal .ensures in
-    let n : 64 ≤ length (inFlight (c .before .before .before .before .args .t1)) = omega (arith, c .before .size .ensures .count) in
-    rw (eq-eqb _ 0 (sym e ∙ c .before .before .if1 .left), le-leb 64 _ n)
+unfolding askOf lowestFree
+returns-2 c = let e = c .before .before .before .before .ask-refusal .ensures in let q = c .before .lowest-free .ensures .0 in rw (eq-eqb _ 0 (sym e ∙ c .before .before .before .if1 .left), ← q, le-leb _ _ (c .if2 .taken))
+
+count-requires : tie.Need-count-requires
+count-requires c κs = search needs
+
+add-mine : tie.Need-add-mine
+add-mine c = search needs
+
+mul-mine : tie.Need-mul-mine
+mul-mine c = search needs
+
+element-copy-out-mine : tie.Need-element-copy-out-mine
+element-copy-out-mine c = let r = ask-range _ _ _ _ _ _ (sym (c .before .before .before .before .before .ask-refusal .ensures) ∙ c .before .before .before .before .if1 .left) .1 in omega arith
+
+add-from : tie.Need-add-from
+add-from c = search needs
+
+mul-from : tie.Need-mul-from
+mul-from c = search needs
 
 element-copy-out-from : tie.Need-element-copy-out-from
-element-copy-out-from c = ask-range _ _ _ _ (sym (c .before .before .before .ask-refusal .ensures) ∙ c .before .before .if1 .left) .1
+element-copy-out-from c = let r = ask-range _ _ _ _ _ _ (sym (c .before .before .before .before .before .before .ask-refusal .ensures) ∙ c .before .before .before .before .before .if1 .left) .1 in omega arith
 
-element-set-from-next : tie.Need-element-set-from-next
-element-set-from-next c = ask-range _ _ _ _ (sym (c .before .before .before .before .before .before .ask-refusal .ensures) ∙ c .before .before .before .before .before .if1 .left) .1
+free-number-requires : tie.Need-free-number-requires
+free-number-requires c κs = search needs
+
+step-requires : tie.Need-step-requires
+step-requires c κs = search needs
+
+mul-a : tie.Need-mul-a
+mul-a c = search needs
+
+element-set-from-a : tie.Need-element-set-from-a
+element-set-from-a c = search needs
+
+add-d : tie.Need-add-d
+add-d c = search needs
+
+mul-d : tie.Need-mul-d
+mul-d c = search needs
+
+element-set-from-d : tie.Need-element-set-from-d
+element-set-from-d c = search needs
+
+add-c : tie.Need-add-c
+add-c c = search needs
+
+mul-c : tie.Need-mul-c
+mul-c c = search needs
+
+element-set-from-c : tie.Need-element-set-from-c
+element-set-from-c c = let r = ask-range _ _ _ _ _ _ (sym (c .before .before .before .before .before .before .before .before .before .before .before .before .before .ask-refusal .ensures) ∙ c .before .before .before .before .before .before .before .before .before .before .before .before .if1 .left) .1 in omega arith
+
+element-write-places : tie.Need-element-write-places
+element-write-places c = search needs
+
+add-places : tie.Need-add-places
+add-places c = search needs
+
+element-write-places-2 : tie.Need-element-write-places-2
+element-write-places-2 c = search needs
+
+cast-order : tie.Need-cast-order
+cast-order c = search needs
+
+element-write-order : tie.Need-element-write-order
+element-write-order c = search needs
+
+bit-requires : tie.Need-bit-requires
+bit-requires c κs = search needs
+
+element-write-masks : tie.Need-element-write-masks
+element-write-masks c = search needs
+
+add-masks : tie.Need-add-masks
+add-masks c = search needs
+
+mul-masks : tie.Need-mul-masks
+mul-masks c = search needs
+
+element-write-masks-2 : tie.Need-element-write-masks-2
+element-write-masks-2 c = let r = ask-range _ _ _ _ _ _ (sym (c .before .before .before .before .before .before .before .before .before .before .before .before .before .before .ask-refusal .ensures) ∙ c .before .before .before .before .before .before .before .before .before .before .before .before .before .if1 .left) .1 in omega arith
 
 returns-3 : tie.Need-returns-3
-unfolding askOf askRefusalOf store accept
+unfolding lowestFree
 returns-3 c =
-    let a = c .before .before .before .before .before .before .before .args in
-    let t = a .t1 in
-    let z = c .before .before .before .before .size .ensures in
-    let n : ℕ = c .before .before .before .before .size .result in
-    let m : n < 64 = c .before .before .before .if2 .left in
-    let e : askRefusal (modelOf t) (a .link) (a .number) (a .publisher) ≡ 0 = sym (c .before .before .before .before .before .before .ask-refusal .ensures) ∙ c .before .before .before .before .before .if1 .left in
-    let g : c .before .free-number .result ≡ given (modelOf t) (a .publisher) = c .before .free-number .ensures in
-    let E : Request = entry (modelOf t) (a .link) (a .number) (a .publisher) in
-    let x : t .requests ≡ inFlight t ++ drop n (t .requests) = sym (take-append-drop n (t .requests)) ∙ rw (z .front) in
-    let l : length (inFlight t ++ E ∷ []) ≡ n + 1 = length-append (inFlight t) (E ∷ []) ∙ ap (λ (i : ℕ). i + 1) (sym (z .count)) in
-    let s : set (t .requests) n E ≡ (inFlight t ++ E ∷ []) ++ drop (length (inFlight t ++ E ∷ [])) (t .requests) =
-    ap (λ (xs : List Request). set xs n E) x ∙ put-next (inFlight t) (t .requests) n E blank (sym (z .count)) (omega arith) ∙ rw l in
-    rw (c .step .ensures, g, eq-eqb _ 0 e, lt-leb 64 (length (inFlight t)) (omega arith)) (asked-eq (table-eq s (sym l) refl) refl)
+    let a = c .before .before .before .before .before .before .before .before .before .before .before .before .before .before .before .before .before .before .args in
+    let w : Table = record { masks = a .masks .now; numbers = a .numbers .now; places = a .places .now; order = a .order .now } in
+    let l : ℕ = a .link in
+    let n = a .number in
+    let p : ℕ = a .publisher in
+    let s : ℕ = c .before .before .before .before .before .before .before .before .before .before .before .lowest-free .result in
+    let e : askRefusalOf (w .masks) (w .numbers) (w .places) l n p ≡ 0 = sym (c .before .before .before .before .before .before .before .before .before .before .before .before .before .before .ask-refusal .ensures) ∙ c .before .before .before .before .before .before .before .before .before .before .before .before .before .if1 .left in
+    let q : s ≡ lowestFree (used w) = c .before .before .before .before .before .before .before .before .before .before .before .lowest-free .ensures .0 in
+    let k = c .before .before .before .before .before .before .before .before .before .count .ensures .0 in
+    let f1 : SFits w64 (n .0) = search needs in
+    let f2 : SFits w64 (c .before .before .before .before .before .free-number .result .0) = search needs in
+    let f3 : SFits w64 (c .before .before .before .before .step .result .0) = search needs in
+    let f4 : SFits w64 (getD (w .numbers) (128 + p) (pos 0)) = search needs in
+    let r = c .before .before .before .before .before .free-number .result in
+    let g : r ≡ givenOf w p = c .before .before .before .before .before .free-number .ensures ∙ ap (λ (x : ℕ). freeOf x (mine w p) (w .numbers) (record { 0 = toZ w64 (ofZ w64 (getD (w .numbers) (128 + p) (pos 0))) })) k ∙ ap (λ (z : ℤ). freeOf (ones (used w)) (mine w p) (w .numbers) (record { 0 = z })) (toZ-ofZ f4) in
+    ask-eq (w .masks) (w .numbers) (w .places) (w .order) l n p s _ _ r _ _ _ (c .bit .ensures ∙ ap (λ (i : ℕ). 2 ^ i) (slot-low s (omega arith))) k (toZ-ofZ f1) (toZ-ofZ f2) (toZ-ofZ f3 ∙ ap (λ x. x .0) (c .before .before .before .before .step .ensures)) ∙ ask-turn w l n p s r q g ∙ sym (ask-yes w l n p e (omega arith))
 
 pub ask-spec : {M : Type 1} → statement M
 ask-spec =
     tie.close
     (tie.spec
-    (λ c κs. search needs)
+    ask-refusal-requires
     returns
-    (λ c κs. search needs)
+    element-copy-out-used
+    lowest-free-requires
     returns-2
-    (λ c. search needs)
+    count-requires
+    add-mine
+    mul-mine
+    element-copy-out-mine
+    add-from
+    mul-from
     element-copy-out-from
-    (λ c κs. search needs)
-    (λ c κs. search needs)
-    (λ c. search needs)
-    (λ c. search needs)
-    (λ c. search needs)
-    (λ c. search needs)
-    element-set-from-next
+    free-number-requires
+    step-requires
+    mul-a
+    element-set-from-a
+    add-d
+    mul-d
+    element-set-from-d
+    add-c
+    mul-c
+    element-set-from-c
+    element-write-places
+    add-places
+    element-write-places-2
+    cast-order
+    element-write-order
+    bit-requires
+    element-write-masks
+    add-masks
+    mul-masks
+    element-write-masks-2
     returns-3)

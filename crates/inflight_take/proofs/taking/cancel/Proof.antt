@@ -1,54 +1,89 @@
--- Cancel: each return is a row of its refusal order, or the other end of the oldest request that the key matches.
+-- A cancel: the refusals in their order, then the slot that is found.
+-- Assumes nothing.
+use Rattle.inflight_take.proofs.TakeLaws.{cancel-eq}
 use borrow.Author.Needs.{needs}
 use borrow.Author.Tests.{le-leb, lt-leb}
-use mathlib.Core.Path.{_≡_, sym, _∙_}
-use Rattle.inflight.specs.Matching.{matching}
-use Rattle.inflight_take.specs.Oldest.{oldest}
-use Rattle.inflight.specs.Model.{takeRefusal, cancelAnswer, noLink}
-use Rattle.inflight.specs.Tables.{inFlight, modelOf, takenOf, cancelOf}
-use Rattle.inflight.specs.declared.Key.{Key}
-use Rattle.inflight.specs.declared.Key.the-variants.{Cancel}
-use Rattle.inflight_take.specs.declared.Found.the-variants.{At}
-use Rattle.inflight_take.proofs.TakeLaws.{take-none, take-found, found-matched}
+use mathlib.Core.Path.{sym, ap, _∙_}
+use mathlib.Core.List.{map}
+use Prim.Native.Nat.{ℕ, _+_, _-_, _^_}
+use native.Mathlib.Omega.{arith}
+use lib.IntN.{pos}
+use lib.ListN.{getD}
+use mir.Syntax.{w64}
+use mir.Val.{SFits}
+use mir.Facts.{toZ-ofZ}
+use Rattle.inflight.specs.Masks.{closedUp}
+use Rattle.inflight.proofs.MaskLaws.{slot-low}
+use Rattle.inflight.specs.Tables.{cutAll, freed, cancelOf}
 use Rattle.inflight_take.proofs.taking.cancel.Statement.{statement}
 use Rattle.inflight_take.proofs.taking.cancel.Tie as tie
 
 returns : tie.Need-returns
-unfolding cancelOf cancelAnswer takenOf takeRefusal
+unfolding cancelOf
 returns c = rw (le-leb _ _ (c .if1 .taken))
 
+same-front-requires : tie.Need-same-front-requires
+same-front-requires c κs = search needs
+
 returns-2 : tie.Need-returns-2
-unfolding cancelOf cancelAnswer takenOf takeRefusal
+unfolding cancelOf
 returns-2 c = rw (lt-leb _ _ (c .before .before .if1 .left), sym (c .before .same-front .ensures) ∙ c .if2 .taken)
 
+element-copy-out-find-front : tie.Need-element-copy-out-find-front
+element-copy-out-find-front c = search needs
+
+find-front-requires : tie.Need-find-front-requires
+find-front-requires c κs = search needs
+
 returns-3 : tie.Need-returns-3
-unfolding cancelOf cancelAnswer takenOf
-returns-3 c =
-    let b = c .before .before .before in
-    let a = b .before .before .before .args in
-    let k : Key = Cancel (a .link) (a .number) in
-    rw (take-none (modelOf (a .t)) (noLink (a .link)) (a .number .0) k (lt-leb 32 (a .link) (b .before .before .if1 .left)) (sym (b .before .same-front .ensures) ∙ b .if2 .left) (sym (c .before .before .first-matching .ensures) ∙ c .enum-told .given .1))
+unfolding cancelOf
+returns-3 c = rw (lt-leb _ _ (c .before .before .before .before .before .if1 .left), sym (c .before .before .before .before .same-front .ensures) ∙ c .before .before .before .if2 .left, ← c .before .find-front .ensures, le-leb _ _ (c .if3 .taken))
+
+add-publisher : tie.Need-add-publisher
+add-publisher c = search needs
+
+element-copy-out-publisher : tie.Need-element-copy-out-publisher
+element-copy-out-publisher c = search needs
+
+add-given : tie.Need-add-given
+add-given c = search needs
+
+mul-given : tie.Need-mul-given
+mul-given c = search needs
+
+element-copy-out-given : tie.Need-element-copy-out-given
+element-copy-out-given c = search needs
+
+free-requires : tie.Need-free-requires
+free-requires c κs = search needs
 
 returns-4 : tie.Need-returns-4
-unfolding cancelOf cancelAnswer takenOf
+unfolding cancelOf freed
 returns-4 c =
-    let d = c .before .before .before in
-    let b = d .before .before .before in
-    let a = b .before .before .before .args in
-    let k : Key = Cancel (a .link) (a .number) in
-    let o : oldest (matching k (inFlight (a .t))) ≡ At (d .e .given .0 .0) = sym (d .before .before .first-matching .ensures) ∙ d .e .given .1 in
-    rw (take-found (modelOf (a .t)) (noLink (a .link)) (a .number .0) k (lt-leb 32 (a .link) (b .before .before .if1 .left)) (sym (b .before .same-front .ensures) ∙ b .if2 .left) _ o, found-matched (modelOf (a .t)) k _ o, c .remove-matching .ensures)
+    let a = c .before .before .before .before .before .before .before .before .before .before .before .args in
+    let ms = a .masks .now in
+    let ns = a .numbers .now in
+    let s : ℕ = c .before .before .before .before .before .before .find-front .result in
+    let f : SFits w64 (getD ns (64 + s) (pos 0)) = search needs in
+    let z = slot-low s (omega arith) in
+    let m = c .free .ensures .0 ∙ ap (λ (i : ℕ). cutAll (2 ^ i) ms) z in
+    let o = c .free .ensures .1 ∙ ap (λ (i : ℕ). map (closedUp (getD (a .order .now) i 0)) (a .order .now)) z in
+    rw (lt-leb _ _ (c .before .before .before .before .before .before .before .before .before .before .if1 .left), sym (c .before .before .before .before .before .before .before .before .before .same-front .ensures) ∙ c .before .before .before .before .before .before .before .before .if2 .left, ← c .before .before .before .before .before .before .find-front .ensures, lt-leb _ _ (c .before .before .before .before .before .if3 .left)) (cancel-eq ns (a .places .now) _ m o (toZ-ofZ f))
 
 pub cancel-spec : {M : Type 1} → statement M
 cancel-spec =
     tie.close
     (tie.spec
     returns
-    (λ c κs. search needs)
+    same-front-requires
     returns-2
-    (λ c κs. search needs)
-    (λ c. search needs)
-    (λ c. search needs)
-    (λ c κs. search needs)
+    element-copy-out-find-front
+    find-front-requires
     returns-3
+    add-publisher
+    element-copy-out-publisher
+    add-given
+    mul-given
+    element-copy-out-given
+    free-requires
     returns-4)

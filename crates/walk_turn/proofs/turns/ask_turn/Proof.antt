@@ -1,8 +1,8 @@
 -- An ask: its table, and its answer's line.
 -- Assumes nothing.
+use Rattle.inflight.specs.Tables.{Asked}
 use Rattle.walk_turn.specs.Lines.{askLine, callLines}
 use Rattle.walk_turn.specs.Turn.{turnOf, linesOf, afterEvent}
-use Rattle.inflight.specs.declared.Asked.{Asked}
 use Rattle.walk_turn.proofs.TurnLaws.{turn-is}
 use borrow.Author.Needs.{needs}
 use Rattle.walk_turn.proofs.turns.ask_turn.Statement.{statement}
@@ -20,7 +20,9 @@ same-length c = search needs
 returns : tie.Need-returns
 unfolding turnOf linesOf afterEvent callLines
 returns c =
-    turn-is (λ (r : Asked). r .table) (λ (r : Asked). askLine (r .answer)) (c .before .before .before .before .before .before .before .args .text .now) (c .before .before .before .before .before .ask .ensures) (c .before .before .before .put-ask .ensures)
+    turn-is (λ (r : Asked). r .table) (λ (r : Asked). askLine (r .answer))
+    (c .before .before .before .before .before .before .before .before .before .before .args .text .now)
+    (c .before .before .before .before .ask .ensures) (c .before .before .put-ask .ensures)
 
 pub ask-turn-spec : {M : Type 1} → statement M
 ask-turn-spec = tie.close (tie.spec ask-requires put-ask-requires same-length returns)

@@ -1,15 +1,11 @@
 -- A lost publisher: its table, and its answer's lines.
 -- Assumes nothing.
-use mathlib.Core.Path.{_≡_, ap, subst}
-use mathlib.Core.List.{List}
-use Prim.Native.Nat.{_*_, _≤_}
+use mathlib.Core.Path.{ap}
 use native.Mathlib.Omega.{arith}
-use lib.IntN.{ℤ}
-use Rattle.inflight.specs.Tables.{lostOf, lostSliceOf}
-use Rattle.inflight.specs.declared.Dropped.{Dropped}
+use Rattle.inflight.specs.Tables.{tableOf, Dropped}
 use Rattle.walk_turn.specs.Lines.{lostWord, countOf, droppedLines, callLines}
 use Rattle.walk_turn.specs.Turn.{lentSlice, turnOf, linesOf, afterEvent}
-use Rattle.walk_turn.proofs.TurnLaws.{turn-is, lines-are, lost-count}
+use Rattle.walk_turn.proofs.TurnLaws.{turn-is, lost-count}
 use borrow.Author.Needs.{needs}
 use Rattle.walk_turn.proofs.turns.lost_turn.Statement.{statement}
 use Rattle.walk_turn.proofs.turns.lost_turn.Tie as tie
@@ -28,9 +24,10 @@ slice-aggregate-put-dropped-2 c = search needs
 
 put-dropped-requires : tie.Need-put-dropped-requires
 put-dropped-requires c κs =
-    let a = c .before .before .before .before .before .before .before .args in
-    let e = ap (λ (r : Dropped). countOf (r .answer)) (c .before .before .before .before .lost .ensures .0) in
-    (omega arith, omega (arith, e, lost-count (a .t) (a .publisher) lentSlice))
+    let a = c .before .before .before .before .before .before .before .before .before .args in
+    let e = ap (λ (r : Dropped). countOf (r .answer)) (c .before .before .before .before .lost .ensures) in
+    let t = tableOf (a .masks .now) (a .numbers .now) (a .places .now) (a .order .now) in
+    (omega arith, omega (arith, e, lost-count t (a .publisher) lentSlice))
 
 same-length : tie.Need-same-length
 same-length c = search needs
@@ -38,11 +35,9 @@ same-length c = search needs
 returns : tie.Need-returns
 unfolding turnOf linesOf afterEvent callLines
 returns c =
-    let a = c .before .before .before .before .before .before .before .before .before .before .before .args in
-    let r = c .before .before .before .before .before .before .before .before .lost in
-    let s : List ℤ = lostSliceOf (a .t) (a .publisher) lentSlice in
-    turn-is (λ (x : Dropped). x .table) (λ (x : Dropped). droppedLines lostWord (x .answer) s) (a .text .now) (r .ensures .0)
-    (lines-are (a .text .now) (ap (droppedLines lostWord (r .result .answer)) (r .ensures .1)) (c .before .before .before .put-dropped .ensures))
+    turn-is (λ (r : Dropped). r .table) (λ (r : Dropped). droppedLines lostWord (r .answer) (r .slice))
+    (c .before .before .before .before .before .before .before .before .before .before .before .before .args .text .now)
+    (c .before .before .before .before .before .before .before .lost .ensures) (c .before .before .put-dropped .ensures)
 
 pub lost-turn-spec : {M : Type 1} → statement M
 lost-turn-spec =

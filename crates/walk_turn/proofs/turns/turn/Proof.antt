@@ -1,6 +1,9 @@
--- One event: a case for each kind. Assumes nothing.
+-- One event: a case for each kind.
+-- Assumes nothing.
+use mathlib.Core.Path.{ap}
+use Rattle.inflight.specs.Tables.{tableOf}
 use Rattle.walk_turn.specs.Turn.{turnOf, linesOf, afterEvent}
-use Rattle.walk_turn.proofs.TurnLaws.{event-is}
+use Rattle.walk_turn.proofs.TurnLaws.{turned, event-is}
 use borrow.Author.Needs.{needs}
 use Rattle.walk_turn.proofs.turns.turn.Statement.{statement}
 use Rattle.walk_turn.proofs.turns.turn.Tie as tie
@@ -38,71 +41,103 @@ lost-turn-requires c κs = search needs
 enum-told : tie.Need-enum-told
 enum-told c = search needs
 
-no-turn-requires : tie.Need-no-turn-requires
-no-turn-requires c κs = search needs
+put-refused-requires : tie.Need-put-refused-requires
+put-refused-requires c κs = search needs
 
 enum-told-2 : tie.Need-enum-told-2
 enum-told-2 c = search needs
 
-no-turn-requires-2 : tie.Need-no-turn-requires-2
-no-turn-requires-2 c κs = search needs
+put-refused-requires-2 : tie.Need-put-refused-requires-2
+put-refused-requires-2 c κs = search needs
 
 enum-told-3 : tie.Need-enum-told-3
 enum-told-3 c = search needs
 
-no-turn-requires-3 : tie.Need-no-turn-requires-3
-no-turn-requires-3 c κs = search needs
+put-refused-requires-3 : tie.Need-put-refused-requires-3
+put-refused-requires-3 c κs = search needs
 
 same-length : tie.Need-same-length
 same-length c = search needs
 
 returns : tie.Need-returns
-returns c = event-is (c .before .before .before .before .before .before .before .before .args .t) (c .before .before .before .before .before .before .before .before .args .text .now) (c .before .before .before .before .before .e .given .1) (c .before .before .ask-turn .ensures)
+returns c =
+    let known = c .before .before .before .before .before .before .before .before .before in
+    let a = known .before .before .before .args in
+    event-is (tableOf (a .masks .now) (a .numbers .now) (a .places .now) (a .order .now)) (a .text .now)
+    (known .e .given .1) (c .before .before .ask-turn .ensures)
 
 same-length-2 : tie.Need-same-length-2
 same-length-2 c = search needs
 
 returns-2 : tie.Need-returns-2
-returns-2 c = event-is (c .before .before .before .before .before .before .before .before .args .t) (c .before .before .before .before .before .before .before .before .args .text .now) (c .before .before .before .before .before .e2 .given .1) (c .before .before .reply-turn .ensures)
+returns-2 c =
+    let known = c .before .before .before .before .before .before .before .before .before in
+    let a = known .before .before .before .args in
+    event-is (tableOf (a .masks .now) (a .numbers .now) (a .places .now) (a .order .now)) (a .text .now)
+    (known .e2 .given .1) (c .before .before .reply-turn .ensures)
 
 same-length-3 : tie.Need-same-length-3
 same-length-3 c = search needs
 
 returns-3 : tie.Need-returns-3
-returns-3 c = event-is (c .before .before .before .before .before .before .before .before .args .t) (c .before .before .before .before .before .before .before .before .args .text .now) (c .before .before .before .before .before .e3 .given .1) (c .before .before .cancel-turn .ensures)
+returns-3 c =
+    let known = c .before .before .before .before .before .before .before .before .before in
+    let a = known .before .before .before .args in
+    event-is (tableOf (a .masks .now) (a .numbers .now) (a .places .now) (a .order .now)) (a .text .now)
+    (known .e3 .given .1) (c .before .before .cancel-turn .ensures)
 
 same-length-4 : tie.Need-same-length-4
 same-length-4 c = search needs
 
 returns-4 : tie.Need-returns-4
-returns-4 c = event-is (c .before .before .before .before .before .before .before .before .args .t) (c .before .before .before .before .before .before .before .before .args .text .now) (c .before .before .before .before .before .e4 .given .1) (c .before .before .closed-turn .ensures)
+returns-4 c =
+    let known = c .before .before .before .before .before .before .before .before .before in
+    let a = known .before .before .before .args in
+    event-is (tableOf (a .masks .now) (a .numbers .now) (a .places .now) (a .order .now)) (a .text .now)
+    (known .e4 .given .1) (c .before .before .closed-turn .ensures)
 
 same-length-5 : tie.Need-same-length-5
 same-length-5 c = search needs
 
 returns-5 : tie.Need-returns-5
-returns-5 c = event-is (c .before .before .before .before .before .before .before .before .args .t) (c .before .before .before .before .before .before .before .before .args .text .now) (c .before .before .before .before .before .e5 .given .1) (c .before .before .lost-turn .ensures)
+returns-5 c =
+    let known = c .before .before .before .before .before .before .before .before .before in
+    let a = known .before .before .before .args in
+    event-is (tableOf (a .masks .now) (a .numbers .now) (a .places .now) (a .order .now)) (a .text .now)
+    (known .e5 .given .1) (c .before .before .lost-turn .ensures)
 
 same-length-6 : tie.Need-same-length-6
 same-length-6 c = search needs
 
 returns-6 : tie.Need-returns-6
 unfolding turnOf linesOf afterEvent
-returns-6 c = event-is (c .before .before .before .before .before .before .before .args .t) (c .before .before .before .before .before .before .before .args .text .now) (c .before .before .before .before .enum-told .given .1) (c .before .before .no-turn .ensures)
+returns-6 c =
+    let a = c .before .before .before .before .before .before .before .args in
+    let p = c .before .before .put-refused .ensures in
+    event-is (tableOf (a .masks .now) (a .numbers .now) (a .places .now) (a .order .now)) (a .text .now)
+    (c .before .before .before .before .enum-told .given .1) (ap (turned (tableOf (a .masks .now) (a .numbers .now) (a .places .now) (a .order .now))) (p .0), p .1)
 
 same-length-7 : tie.Need-same-length-7
 same-length-7 c = search needs
 
 returns-7 : tie.Need-returns-7
 unfolding turnOf linesOf afterEvent
-returns-7 c = event-is (c .before .before .before .before .before .before .before .args .t) (c .before .before .before .before .before .before .before .args .text .now) (c .before .before .before .before .enum-told2 .given .1) (c .before .before .no-turn2 .ensures)
+returns-7 c =
+    let a = c .before .before .before .before .before .before .before .args in
+    let p = c .before .before .put-refused2 .ensures in
+    event-is (tableOf (a .masks .now) (a .numbers .now) (a .places .now) (a .order .now)) (a .text .now)
+    (c .before .before .before .before .enum-told2 .given .1) (ap (turned (tableOf (a .masks .now) (a .numbers .now) (a .places .now) (a .order .now))) (p .0), p .1)
 
 same-length-8 : tie.Need-same-length-8
 same-length-8 c = search needs
 
 returns-8 : tie.Need-returns-8
 unfolding turnOf linesOf afterEvent
-returns-8 c = event-is (c .before .before .before .before .before .before .before .args .t) (c .before .before .before .before .before .before .before .args .text .now) (c .before .before .before .before .enum-told3 .given .1) (c .before .before .no-turn3 .ensures)
+returns-8 c =
+    let a = c .before .before .before .before .before .before .before .args in
+    let p = c .before .before .put-refused3 .ensures in
+    event-is (tableOf (a .masks .now) (a .numbers .now) (a .places .now) (a .order .now)) (a .text .now)
+    (c .before .before .before .before .enum-told3 .given .1) (ap (turned (tableOf (a .masks .now) (a .numbers .now) (a .places .now) (a .order .now))) (p .0), p .1)
 
 pub turn-spec : {M : Type 1} → statement M
 turn-spec =
@@ -119,11 +154,11 @@ turn-spec =
     enum-known-e-5
     lost-turn-requires
     enum-told
-    no-turn-requires
+    put-refused-requires
     enum-told-2
-    no-turn-requires-2
+    put-refused-requires-2
     enum-told-3
-    no-turn-requires-3
+    put-refused-requires-3
     same-length
     returns
     same-length-2

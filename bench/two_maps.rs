@@ -1,0 +1,139 @@
+//! A table of requests as one would write it by hand who keeps every rule: a hash map by each end of a request,
+//! eight loads and eight last numbers. It refuses as the library does, in the same order, and searches a map twice
+//! nowhere.
+
+use std::collections::hash_map::Entry;
+use std::collections::HashMap;
+
+/// A front link or a publisher, and a number.
+type End = (u8, i64);
+
+/// The other end of a request in flight, and when it was accepted.
+#[derive(Clone, Copy)]
+struct Accepted {
+    front: End,
+    stamp: u64,
+}
+
+#[derive(Clone)]
+pub struct TwoMaps {
+    by_front: HashMap<End, End>,
+    by_number: HashMap<End, Accepted>,
+    loads: [usize; 8],
+    last: [i64; 8],
+    accepted: u64,
+}
+
+fn after(number: i64) -> i64 {
+    number.checked_add(1).unwrap_or(1)
+}
+
+impl TwoMaps {
+    pub fn new(first: i64) -> Result<TwoMaps, u8> {
+        if first < 1 {
+            return Err(30);
+        }
+        Ok(TwoMaps {
+            by_front: HashMap::with_capacity(64),
+            by_number: HashMap::with_capacity(64),
+            loads: [0; 8],
+            last: [first - 1; 8],
+            accepted: 0,
+        })
+    }
+
+    pub fn ask(&mut self, link: u8, number: i64, publisher: u8) -> Result<i64, u8> {
+        if link > 31 || publisher > 7 {
+            return Err(30);
+        }
+        if number == 0 {
+            return Err(12);
+        }
+        let Entry::Vacant(place) = self.by_front.entry((link, number)) else { return Err(31) };
+        let p = usize::from(publisher);
+        if self.loads[p] == 16 {
+            return Err(32);
+        }
+        if self.loads[p] >= 4 && self.loads.iter().map(|&load| load.max(4)).sum::<usize>() == 64 {
+            return Err(33);
+        }
+        let accepted = Accepted { front: (link, number), stamp: self.accepted };
+        let mut given = after(self.last[p]);
+        loop {
+            let Entry::Vacant(place) = self.by_number.entry((publisher, given)) else {
+                given = after(given);
+                continue;
+            };
+            place.insert(accepted);
+            break;
+        }
+        place.insert((publisher, given));
+        self.loads[p] += 1;
+        self.last[p] = given;
+        self.accepted += 1;
+        Ok(given)
+    }
+
+    pub fn reply(&mut self, publisher: u8, number: i64) -> Result<End, u8> {
+        if publisher > 7 {
+            return Err(30);
+        }
+        if number == 0 {
+            return Err(12);
+        }
+        let Accepted { front, .. } = self.by_number.remove(&(publisher, number)).ok_or(34)?;
+        self.by_front.remove(&front);
+        self.loads[usize::from(publisher)] -= 1;
+        Ok(front)
+    }
+
+    pub fn cancel(&mut self, link: u8, number: i64) -> Result<End, u8> {
+        if link > 31 {
+            return Err(30);
+        }
+        if number == 0 {
+            return Err(12);
+        }
+        let publisher = self.by_front.remove(&(link, number)).ok_or(34)?;
+        self.by_number.remove(&publisher);
+        self.loads[usize::from(publisher.0)] -= 1;
+        Ok(publisher)
+    }
+
+    pub fn closed(&mut self, link: u8, out: &mut [i64]) -> Result<usize, u8> {
+        if link > 31 {
+            return Err(30);
+        }
+        self.free(|front, _| front.0 == link, |_, publisher| publisher, out)
+    }
+
+    pub fn lost(&mut self, publisher: u8, out: &mut [i64]) -> Result<usize, u8> {
+        if publisher > 7 {
+            return Err(30);
+        }
+        self.free(|_, key| key.0 == publisher, |front, _| front, out)
+    }
+
+    /// Frees the chosen requests, given by front and publisher, and writes the ends that are wanted, oldest first.
+    fn free(
+        &mut self,
+        chosen: impl Fn(End, End) -> bool,
+        wanted: impl Fn(End, End) -> End,
+        out: &mut [i64],
+    ) -> Result<usize, u8> {
+        let all = self.by_number.iter().map(|(&publisher, request)| (request.stamp, request.front, publisher));
+        let mut gone: Vec<_> = all.filter(|&(_, front, publisher)| chosen(front, publisher)).collect();
+        if out.len() < 2 * gone.len() {
+            return Err(16);
+        }
+        gone.sort_unstable();
+        for (&(_, front, publisher), end) in gone.iter().zip(out.chunks_exact_mut(2)) {
+            let (place, number) = wanted(front, publisher);
+            end.copy_from_slice(&[place.into(), number]);
+            self.by_front.remove(&front);
+            self.by_number.remove(&publisher);
+            self.loads[usize::from(publisher.0)] -= 1;
+        }
+        Ok(gone.len())
+    }
+}

@@ -1,0 +1,151 @@
+//! What each call does on any contents, as crates/inflight/specs/Tables.antt
+//! defines it, written down again by other means: lists and no masks in place.
+
+use super::*;
+
+/// The slots of a mask, lowest first.
+fn slots(mask: u64) -> impl Iterator<Item = usize> {
+    (0..64).filter(move |slot| mask >> slot & 1 == 1)
+}
+
+/// The used slots, laid out by their places: a place over 63 counts by its six
+/// lowest bits, the highest of several slots has their place, and slot 0 stands
+/// where there is none. As many count as slots are used.
+fn line(table: &Table) -> Vec<usize> {
+    let mut list = vec![0; 64];
+    for slot in slots(table.masks[0]) {
+        list[usize::from(table.order[slot] % 64)] = slot;
+    }
+    list.truncate(table.masks[0].count_ones() as usize);
+    list
+}
+
+fn mine(table: &Table, publisher: u8) -> u64 {
+    table.masks[1 + usize::from(publisher)]
+}
+
+fn of_front(table: &Table, link: u8, front: i64) -> Option<usize> {
+    slots(table.masks[0]).find(|&i| (table.places[i], table.numbers[i]) == (link, front))
+}
+
+fn of_number(table: &Table, publisher: u8, number: i64) -> Option<usize> {
+    slots(mine(table, publisher)).find(|&i| table.numbers[64 + i] == number)
+}
+
+fn after(number: i64) -> i64 {
+    number.checked_add(1).unwrap_or(1)
+}
+
+fn unmask(table: &mut Table, gone: u64) {
+    table.masks = table.masks.map(|mask| mask & !gone);
+}
+
+/// One slot is freed; all places behind its own come one forward, those of slots
+/// that are not used too.
+fn strike(table: &mut Table, slot: usize) {
+    let own = table.order[slot];
+    table.order = table.order.map(|place| match place {
+        _ if own < place => place - 1,
+        _ => place,
+    });
+    unmask(table, 1 << slot);
+}
+
+fn ask_refusal(table: &Table, link: u8, front: i64, publisher: u8) -> Option<u8> {
+    if link > 31 || publisher > 7 {
+        return Some(30);
+    }
+    let load = |p| mine(table, p).count_ones();
+    let taken: u32 = (0..8).map(|p| load(p).max(4)).sum();
+    let refusals = [
+        (front == 0, 12),
+        (of_front(table, link, front).is_some(), 31),
+        (load(publisher) >= 16, 32),
+        (load(publisher) >= 4 && taken == 64, 33),
+        (table.masks[0] == u64::MAX, 33),
+    ];
+    refusals.into_iter().find(|r| r.0).map(|r| r.1)
+}
+
+/// The number that is given, or a refusal.
+pub fn ask(table: &mut Table, link: u8, front: i64, publisher: u8) -> Result<i64, u8> {
+    if let Some(refusal) = ask_refusal(table, link, front, publisher) {
+        return Err(refusal);
+    }
+    let count = table.masks[0].count_ones() as usize;
+    let slot = slots(!table.masks[0]).next().expect("a free slot");
+    let p = usize::from(publisher);
+    let mut number = table.numbers[128 + p];
+    // It gives up where garbage has more of a publisher's slots than used ones.
+    for _ in 0..count {
+        if of_number(table, publisher, number).is_none() {
+            break;
+        }
+        number = after(number);
+    }
+    (table.numbers[slot], table.numbers[64 + slot]) = (front, number);
+    table.numbers[128 + p] = after(number);
+    (table.places[slot], table.places[64 + slot]) = (link, publisher);
+    table.order[slot] = count as u8;
+    table.masks[0] |= 1 << slot;
+    table.masks[1 + p] |= 1 << slot;
+    Ok(number)
+}
+
+/// Link and front number, or a refusal.
+pub fn reply(table: &mut Table, publisher: u8, number: i64) -> Result<(u8, i64), u8> {
+    match publisher {
+        8.. => return Err(30),
+        _ if number == 0 => return Err(12),
+        _ => {}
+    }
+    let slot = of_number(table, publisher, number).ok_or(34)?;
+    strike(table, slot);
+    Ok((table.places[slot], table.numbers[slot]))
+}
+
+/// Publisher and publisher number, or a refusal.
+pub fn cancel(table: &mut Table, link: u8, front: i64) -> Result<(u8, i64), u8> {
+    match link {
+        32.. => return Err(30),
+        _ if front == 0 => return Err(12),
+        _ => {}
+    }
+    let slot = of_front(table, link, front).ok_or(34)?;
+    strike(table, slot);
+    Ok((table.places[64 + slot], table.numbers[64 + slot]))
+}
+
+pub fn closed(table: &mut Table, link: u8, out: &mut [i64]) -> Result<usize, u8> {
+    if link > 31 {
+        return Err(30);
+    }
+    let of_link = slots(table.masks[0]).filter(|&i| table.places[i] == link);
+    let gone = of_link.fold(0, |mask, i| mask | 1 << i);
+    freed(table, gone, 64, out)
+}
+
+pub fn lost(table: &mut Table, publisher: u8, out: &mut [i64]) -> Result<usize, u8> {
+    if publisher > 7 {
+        return Err(30);
+    }
+    freed(table, mine(table, publisher), 0, out)
+}
+
+/// The slots of a mask are freed. Their other ends are at an offset into numbers
+/// and places; those that stay take their places anew.
+fn freed(table: &mut Table, gone: u64, offset: usize, out: &mut [i64]) -> Result<usize, u8> {
+    let line = line(table).into_iter();
+    let (leaving, staying): (Vec<usize>, Vec<usize>) = line.partition(|slot| gone >> slot & 1 == 1);
+    let ends = leaving.iter().flat_map(|slot| {
+        let i = offset + slot;
+        [i64::from(table.places[i]), table.numbers[i]]
+    });
+    let ends: Vec<i64> = ends.collect();
+    out.get_mut(..ends.len()).ok_or(16)?.copy_from_slice(&ends);
+    for (place, slot) in staying.into_iter().enumerate() {
+        table.order[slot] = place as u8;
+    }
+    unmask(table, gone);
+    Ok(leaving.len())
+}

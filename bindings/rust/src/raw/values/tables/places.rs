@@ -1,0 +1,126 @@
+//! Lists of calls from a fresh table on: the places of the used slots say which
+//! request is older.
+
+use super::random::Random;
+use super::*;
+
+/// A request in flight, and its slot.
+#[derive(Clone, Copy)]
+struct Flight {
+    link: u8,
+    front: i64,
+    publisher: u8,
+    number: i64,
+    slot: usize,
+}
+
+/// A table, and what is in flight, oldest first.
+struct Both {
+    table: Table,
+    flights: Vec<Flight>,
+}
+
+impl Both {
+    fn ask(&mut self, link: u8, front: i64, publisher: u8) {
+        let slot = self.table.masks[0].trailing_ones() as usize;
+        let asked = relay_ask(&mut self.table, link, FrontNumber(front), publisher);
+        if asked.refusal == 0 {
+            self.flights.push(Flight {
+                link,
+                front,
+                publisher,
+                number: asked.number.0,
+                slot,
+            });
+        }
+    }
+
+    fn reply_or_cancel(&mut self, nth: usize, reply: bool) {
+        let f = self.flights.remove(nth);
+        if reply {
+            let replied = relay_reply(&mut self.table, f.publisher, PublisherNumber(f.number));
+            let answer = (replied.refusal, replied.link, replied.number.0);
+            assert_eq!(answer, (0, f.link, f.front));
+        } else {
+            let cancelled = relay_cancel(&mut self.table, f.link, FrontNumber(f.front));
+            let answer = (cancelled.refusal, cancelled.publisher, cancelled.number.0);
+            assert_eq!(answer, (0, f.publisher, f.number));
+        }
+    }
+
+    fn closed(&mut self, link: u8) {
+        let mut out = [0; 128];
+        let dropped = relay_closed(&mut self.table, link, &mut out);
+        let gone = self.leave(|f| f.link == link);
+        let ends = gone.iter().map(|f| [f.publisher.into(), f.number]);
+        is_dropped(dropped, &out, ends);
+    }
+
+    fn lost(&mut self, publisher: u8) {
+        let mut out = [0; 128];
+        let dropped = relay_lost(&mut self.table, publisher, &mut out);
+        let gone = self.leave(|f| f.publisher == publisher);
+        let ends = gone.iter().map(|f| [f.link.into(), f.front]);
+        is_dropped(dropped, &out, ends);
+    }
+
+    fn leave(&mut self, leaves: impl Fn(&Flight) -> bool) -> Vec<Flight> {
+        let gone = self.flights.iter().copied().filter(&leaves).collect();
+        self.flights.retain(|f| !leaves(f));
+        gone
+    }
+
+    fn any_call(&mut self, random: &mut Random, asks: usize) {
+        let (link, publisher) = (random.below(6) as u8, random.below(8) as u8);
+        let count = self.flights.len();
+        match random.below(100) {
+            kind if kind < asks => self.ask(link, 1 + random.below(100) as i64, publisher),
+            kind if kind % 9 == 0 => self.closed(link),
+            kind if kind % 9 == 1 => self.lost(publisher),
+            kind if count > 0 => self.reply_or_cancel(random.below(count), kind % 2 == 0),
+            _ => {}
+        }
+    }
+
+    /// By the places, the used slots have the requests in flight from the oldest on.
+    fn holds(&self) {
+        let slots = self.flights.iter().map(|f| f.slot);
+        assert!(by_age(&self.table).into_iter().eq(slots));
+        for f in &self.flights {
+            let (places, numbers) = (&self.table.places, &self.table.numbers);
+            assert_eq!((places[f.slot], numbers[f.slot]), (f.link, f.front));
+            let other = 64 + f.slot;
+            assert_eq!((places[other], numbers[other]), (f.publisher, f.number));
+        }
+    }
+}
+
+fn is_dropped(dropped: Dropped, out: &[i64], ends: impl ExactSizeIterator<Item = [i64; 2]>) {
+    assert_eq!((dropped.refusal, dropped.count), (0, ends.len()));
+    let written = out[..2 * dropped.count].iter().copied();
+    assert!(written.eq(ends.flatten()));
+}
+
+/// Whatever stood there before; and every count from 0 to 64 is met.
+#[test]
+fn places_are_by_acceptance_after_any_calls() {
+    let mut random = Random(7);
+    let mut counts = [false; 65];
+    for n in 0..200 {
+        let mut table = EMPTY;
+        table.order = match n % 3 {
+            0 => [0; 64],
+            1 => [255; 64],
+            _ => random.bytes(64).try_into().expect("64 bytes"),
+        };
+        assert_eq!(relay_fresh(&mut table, PublisherNumber(FIRST)), 0);
+        let flights = Vec::new();
+        let mut both = Both { table, flights };
+        for _ in 0..400 {
+            both.any_call(&mut random, [40, 60, 80, 97][n % 4]);
+            both.holds();
+            counts[both.flights.len()] = true;
+        }
+    }
+    assert_eq!(counts, [true; 65]);
+}

@@ -1,0 +1,75 @@
+-- The rows, each by its own test and those before it.
+-- Assumes nothing.
+use mathlib.Core.Path.{_≡_, refl}
+use Prim.Native.Nat.{ℕ, _*_, _≤_}
+use mathlib.Core.Bool.{Bool, true, false}
+use mathlib.Core.List.{List}
+use lib.Dec.{leb}
+use lib.IntN.{ℤ, pos}
+use lib.ListN.{length}
+use borrow.Author.Tests.{eq-eqb, ne-eqb, le-leb, lt-leb, le-ltb, lt-ltb}
+use Rattle.inflight.specs.Requests.{Key, Reply, Cancel}
+use Rattle.inflight.specs.Matching.{matching}
+use Rattle.inflight.specs.Model.{Model, askRefusal, askAnswer, takeRefusal, replyAnswer, cancelAnswer, dropRefusal}
+use Rattle.inflight.specs.Model.{dropAnswer}
+use Rattle.inflight.specs.declared.FrontNumber.{FrontNumber}
+use Rattle.inflight.specs.declared.PublisherNumber.{PublisherNumber}
+use Rattle.inflight.specs.declared.AskAnswer.the-variants as A
+use Rattle.inflight.proofs.NumberLaws.{eq-same, ne-same}
+use Rattle.inflight.proofs.AskLaws.{ask-own}
+use Rattle.inflight_claims.proofs.ListClaim.{capacity}
+use Rattle.inflight_claims.specs.Rows.{AskRows, ReplyRows, CancelRows, DropRows, Rows}
+
+ask-rows : (m : Model) (l : ℕ) (n : FrontNumber) (p : ℕ) → AskRows m l n p
+unfolding askAnswer askRefusal
+ask-rows m l n p =
+    record {
+      link = λ h. rw (le-leb 32 l h);
+      publisher = λ h. out (leb 32 l) refl h;
+      zero = λ a b e. rw (lt-leb 32 l a, lt-leb 8 p b, eq-same (n .0) (pos 0) e);
+      own = λ a b c d. rw (ask-own m l n p a b (ne-same (n .0) (pos 0) c) d);
+      valid = capacity m l n p;
+    }
+  where
+    out : (t : Bool) → leb 32 l ≡ t → 8 ≤ p → askAnswer m l n p ≡ A.Refused 30
+    out true e h = rw e
+    out false e h = rw (e, le-leb 8 p h)
+
+reply-rows : (m : Model) (p : ℕ) (n : PublisherNumber) → ReplyRows m p n
+unfolding replyAnswer takeRefusal
+reply-rows m p n =
+    record {
+      range = λ h. rw (le-leb 8 p h);
+      zero = λ h e. rw (lt-leb 8 p h, eq-same (n .0) (pos 0) e);
+      none = λ h e d. rw (lt-leb 8 p h, ne-same (n .0) (pos 0) e, eq-eqb _ 0 d);
+      one = λ h e d. rw (lt-leb 8 p h, ne-same (n .0) (pos 0) e, ne-eqb _ 0 d);
+    }
+
+cancel-rows : (m : Model) (l : ℕ) (n : FrontNumber) → CancelRows m l n
+unfolding cancelAnswer takeRefusal
+cancel-rows m l n =
+    record {
+      range = λ h. rw (le-leb 32 l h);
+      zero = λ h e. rw (lt-leb 32 l h, eq-same (n .0) (pos 0) e);
+      none = λ h e d. rw (lt-leb 32 l h, ne-same (n .0) (pos 0) e, eq-eqb _ 0 d);
+      one = λ h e d. rw (lt-leb 32 l h, ne-same (n .0) (pos 0) e, ne-eqb _ 0 d);
+    }
+
+drop-rows : (m : Model) (limit x : ℕ) (k : Key) (out : List ℤ) → DropRows m limit x k out
+unfolding dropAnswer dropRefusal
+drop-rows m limit x k out =
+    record {
+      range = λ h. rw (le-leb limit x h);
+      short = λ h l. rw (lt-leb limit x h, lt-ltb (length out) (2 * length (matching k (m .requests))) l);
+      all = λ h l. rw (lt-leb limit x h, le-ltb (length out) (2 * length (matching k (m .requests))) l);
+    }
+
+pub rows : (m : Model) → Rows m
+rows m =
+    record {
+      ask = ask-rows m;
+      reply = reply-rows m;
+      cancel = cancel-rows m;
+      closed = λ l out. drop-rows m 32 l _ out;
+      lost = λ p out. drop-rows m 8 p _ out;
+    }

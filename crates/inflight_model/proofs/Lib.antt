@@ -1,0 +1,4 @@
+-- The laws, lowest first.
+pub mod Capacity
+pub mod Flight
+pub mod Invariant

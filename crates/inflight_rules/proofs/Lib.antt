@@ -1,0 +1,4 @@
+-- The laws that the proofs of the rules cite.
+pub mod NumberingLaws
+pub mod FreeLaws
+pub mod SumLaws

@@ -1,2 +1,0 @@
--- What the contract of the private search cites besides the definitions of crate inflight.
-pub mod Oldest

@@ -1,0 +1,318 @@
+-- Call by call: a good table answers, writes the slice and is left as the model; then along the list, and from a fresh
+-- table on.
+-- Assumes nothing.
+use mathlib.Core.Path.{_≡_, refl, sym, ap, _∙_, subst}
+use Prim.Native.Nat.{ℕ, zero, suc, _+_, _*_, _^_, _<_}
+use native.Mathlib.Omega.{arith}
+use mathlib.Core.Bool.{Bool, true, false}
+use mathlib.Core.List.{List, [], _∷_, _++_, map}
+use lib.Dec.{eqb, leb, ltb}
+use lib.IntN.{ℤ, pos}
+use lib.Signed.{ltZ}
+use lib.Count.{ones, ones-ones}
+use lib.ListN.{length, take, drop, getD, replicate, length-set, length-map, length-append}
+use lib.Seq.{drop-at, length-take-le}
+use Rattle.wire.specs.Choice.{pick}
+use Rattle.wire.proofs.ChoiceLaws.{by-row}
+use Rattle.inflight.specs.Numbers.{same}
+use Rattle.inflight.specs.Model.{Model, askRefusal, empty, noLink, noPublisher}
+use Rattle.inflight.specs.Calls.{Call, Heard, ask, reply, cancel, closed, lost, asked, replied, cancelled, dropped}
+use Rattle.inflight.specs.Calls.{tableHeard, tableAfter, tableRun, tableAt, modelHeard, modelAfter, modelRun, modelAt}
+use Rattle.inflight.specs.declared.FrontNumber.{FrontNumber}
+use Rattle.inflight.specs.declared.PublisherNumber.{PublisherNumber}
+use Rattle.inflight.specs.declared.DropAnswer.{DropAnswer}
+use Rattle.inflight.specs.declared.FreshAnswer.{FreshAnswer}
+use Rattle.inflight.specs.declared.FreshAnswer.the-variants as F
+use Rattle.inflight.specs.Masks.{bitAt, outside, laidOut, seek, slots, lowestFree}
+use Rattle.inflight.specs.Tables.{Table, Sized, used, mine, line, linked, leaving, struck, freed, placed, givenOf}
+use Rattle.inflight.specs.Tables.{isNumber, isFront, isLink, askRefusalOf, askOf, replyOf, cancelOf, dropOf, closedOf}
+use Rattle.inflight.specs.Tables.{lostOf, Replied, Cancelled, freshAnswer, freshMasks, freshNumbers, freshOf}
+use Rattle.inflight_model.proofs.Capacity.{accepts, bounded-space}
+use Rattle.inflight_model.proofs.Invariant.{Ranged, Invariant, inv-call, inv-empty}
+use Rattle.inflight_tied.proofs.Tied.{occ, Below, Aged, Tied, entry, inFlight, modelOf}
+use Rattle.inflight_tied.proofs.Ties.{occ-nil}
+use Rattle.inflight_tied.proofs.LaidOut.{anew-length}
+use Rattle.inflight_tied.proofs.Cuts.{struck-tied}
+use Rattle.inflight_tied.proofs.Placed.{bit-of-zero}
+use Rattle.inflight_tied.proofs.Loads.{length-standing}
+use Rattle.inflight_tied.proofs.Takes.{reply-same, cancel-same}
+use Rattle.inflight_tied.proofs.Drops.{gather-fits, closed-same, lost-same}
+use Rattle.inflight_tied.proofs.Asks.{ask-all}
+
+-- ---- the tie and the sizes are kept
+
+pub record Kept (w : Table) : Type 0 where
+  pub tied : Tied w
+  pub sized : Sized w
+
+struck-sized : (w : Table) (g : ℕ) → Sized w → Sized (struck w g)
+unfolding struck
+struck-sized w g l =
+    record {
+      masks = length-map (w .masks) _ ∙ l .masks;
+      numbers = l .numbers;
+      places = l .places;
+      order = anew-length (outside g (line w)) 0 (w .order) ∙ l .order;
+    }
+
+struck-kept : (w : Table) (g : ℕ) → g < 2 ^ 64 → Kept w → Kept (struck w g)
+struck-kept w g f h = record { tied = struck-tied w g f (h .tied); sized = struck-sized w g (h .sized) }
+
+freed-sized : (w : Table) (s : ℕ) → Sized w → Sized (freed w s)
+unfolding freed
+freed-sized w s l =
+    record {
+      masks = length-map (w .masks) _ ∙ l .masks;
+      numbers = l .numbers;
+      places = l .places;
+      order = length-map (w .order) _ ∙ l .order;
+    }
+
+placed-sized : (w : Table) (a : ℕ) (n : FrontNumber) (p s : ℕ) (g : PublisherNumber) → Sized w
+    → Sized (placed w a n p s g)
+placed-sized w a n p s g l =
+    record {
+      masks = simp length-set (l .masks);
+      numbers = simp length-set (l .numbers);
+      places = simp length-set (l .places);
+      order = simp length-set (l .order);
+    }
+
+ask-sized : (w : Table) (l : ℕ) (n : FrontNumber) (p : ℕ) → Sized w → Sized (askOf w l n p .table)
+unfolding askOf
+ask-sized w l n p h =
+    go (eqb (askRefusalOf (w .masks) (w .numbers) (w .places) l n p) 0) refl (leb 64 (lowestFree (used w))) refl
+  where
+    go : (x : Bool) → eqb (askRefusalOf (w .masks) (w .numbers) (w .places) l n p) 0 ≡ x → (y : Bool)
+        → leb 64 (lowestFree (used w)) ≡ y → Sized (askOf w l n p .table)
+    go false e y d = rw e h
+    go true e true d = rw (e, d) h
+    go true e false d = rw (e, d) (placed-sized w l n p (lowestFree (used w)) (givenOf w p) h)
+
+reply-sized : (w : Table) (p : ℕ) (n : PublisherNumber) → Sized w → Sized (replyOf w p n .table)
+unfolding replyOf
+reply-sized w p n h =
+    let sized : (Replied → Type 0) = λ a. Sized (a .table) in
+    by-row sized (noPublisher p) _ _ (λ a. h)
+    (λ a. by-row sized (same (n .0) (pos 0)) _ _ (λ b. h)
+    (λ b. by-row sized (leb 64 (seek (isNumber (w .numbers) n) (slots (mine w p)))) _ _ (λ c. h)
+    (λ c. freed-sized w _ h)))
+
+cancel-sized : (w : Table) (l : ℕ) (n : FrontNumber) → Sized w → Sized (cancelOf w l n .table)
+unfolding cancelOf
+cancel-sized w l n h =
+    let sized : (Cancelled → Type 0) = λ a. Sized (a .table) in
+    by-row sized (noLink l) _ _ (λ a. h)
+    (λ a. by-row sized (same (n .0) (pos 0)) _ _ (λ b. h)
+    (λ b. by-row sized (leb 64 (seek (isFront (w .numbers) (w .places) l n) (slots (used w)))) _ _ (λ c. h)
+    (λ c. freed-sized w _ h)))
+
+drop-kept : (w : Table) (g base : ℕ) (out : List ℤ) → g < 2 ^ 64 → Kept w → Kept (dropOf w g base out .table)
+unfolding dropOf
+drop-kept w g base out f h = go (ltb (length out) (2 * length (leaving w g))) refl
+  where
+    go : (x : Bool) → ltb (length out) (2 * length (leaving w g)) ≡ x → Kept (dropOf w g base out .table)
+    go true e = rw e h
+    go false e = rw e (struck-kept w g f h)
+
+closed-kept : (w : Table) (l : ℕ) (out : List ℤ) → Kept w → Kept (closedOf w l out .table)
+unfolding closedOf
+closed-kept w l out h = go (leb 32 l) refl
+  where
+    go : (x : Bool) → leb 32 l ≡ x → Kept (closedOf w l out .table)
+    go true e = rw e h
+    go false e =
+        rw e
+        (drop-kept w (linked w l) 64 out
+        (gather-fits (isLink (w .places) l) 64 0 (used w) 0 (omega arith) (omega arith)) h)
+
+lost-kept : (w : Table) (p : ℕ) (out : List ℤ) → Kept w → Kept (lostOf w p out .table)
+unfolding lostOf
+lost-kept w p out h = go (leb 8 p) refl
+  where
+    go : (x : Bool) → leb 8 p ≡ x → Kept (lostOf w p out .table)
+    go true e = rw e h
+    go false e = rw e (drop-kept w (mine w p) 0 out (h .tied .narrow p) h)
+
+-- ---- one call
+
+pub record Good (w : Table) : Type 0 where
+  pub kept : Kept w
+  pub inv : Invariant (modelOf w)
+
+pub record Same (w : Table) (c : Call) : Type 0 where
+  pub answer : tableHeard w c ≡ modelHeard (modelOf w) c
+  pub table : modelOf (tableAfter w c) ≡ modelAfter (modelOf w) c
+  pub kept : Kept (tableAfter w c)
+
+heard-eq : {a b : DropAnswer} {x y : List ℤ} → a ≡ b → x ≡ y → dropped a x ≡ dropped b y
+heard-eq p q = rw (p, q)
+
+pub same-call : (w : Table) (c : Call) → Good w → Same w c
+same-call w (ask l n p) g =
+    let r = ask-all w (g .kept .tied) (g .kept .sized) l n p (λ e. room e) in
+    record {
+      answer = ap asked (r .answer);
+      table = r .table;
+      kept = record { tied = r .kept; sized = ask-sized w l n p (g .kept .sized) };
+    }
+  where
+    room : askRefusal (modelOf w) l n p ≡ 0 → ones (used w) < 64
+    room e =
+        let a = bounded-space (inFlight w) p (g .inv .bounded) (accepts (modelOf w) l n p e) in
+        let b = length-standing w (g .kept .tied) in
+        omega (arith, a, b)
+same-call w (reply p n) g =
+    let r = reply-same w (g .kept .tied) p n (g .inv .once p n) in
+    record {
+      answer = ap replied (r .answer);
+      table = r .table;
+      kept = record { tied = r .kept; sized = reply-sized w p n (g .kept .sized) };
+    }
+same-call w (cancel l n) g =
+    let r = cancel-same w (g .kept .tied) l n (g .inv .frontOnce l n) in
+    record {
+      answer = ap cancelled (r .answer);
+      table = r .table;
+      kept = record { tied = r .kept; sized = cancel-sized w l n (g .kept .sized) };
+    }
+same-call w (closed l out) g =
+    let r = closed-same w (g .kept .tied) l out in
+    record { answer = heard-eq (r .answer) (r .slice); table = r .table; kept = closed-kept w l out (g .kept) }
+same-call w (lost p out) g =
+    let r = lost-same w (g .kept .tied) p out in
+    record { answer = heard-eq (r .answer) (r .slice); table = r .table; kept = lost-kept w p out (g .kept) }
+
+pub good-after : (w : Table) (c : Call) → Good w → Good (tableAfter w c)
+good-after w c g =
+    let r = same-call w c g in
+    record { kept = r .kept; inv = subst Invariant (sym (r .table)) (inv-call (modelOf w) c (g .inv)) }
+
+-- ---- the list
+
+pub run-same : (cs : List Call) (w : Table) → Good w → tableRun w cs ≡ modelRun (modelOf w) cs
+unfolding tableRun modelRun
+run-same [] w g = refl
+run-same (c ∷ cs) w g =
+    let r = same-call w c g in
+    let i : tableRun (tableAfter w c) cs ≡ modelRun (modelAfter (modelOf w) c) cs =
+    run-same cs (tableAfter w c) (good-after w c g) ∙ ap (λ (b : Model). modelRun b cs) (r .table) in
+    ap (λ (h : Heard). h ∷ tableRun (tableAfter w c) cs) (r .answer)
+    ∙ ap (λ (hs : List Heard). modelHeard (modelOf w) c ∷ hs) i
+
+-- the table after some calls reads as the model after them, and answers the next call as it does
+pub record Stays (w : Table) (cs : List Call) : Type 0 where
+  pub model : modelOf (tableAt w cs) ≡ modelAt (modelOf w) cs
+  pub good : Good (tableAt w cs)
+
+pub stays : (cs : List Call) (w : Table) → Good w → Stays w cs
+unfolding tableAt modelAt
+stays [] w g = record { model = refl; good = g }
+stays (c ∷ cs) w g =
+    let r = same-call w c g in
+    let s = stays cs (tableAfter w c) (good-after w c g) in
+    record { model = s .model ∙ ap (λ (b : Model). modelAt b cs) (r .table); good = s .good }
+
+pub heard-at : (cs : List Call) (c : Call) (w : Table) → Good w
+    → tableHeard (tableAt w cs) c ≡ modelHeard (modelAt (modelOf w) cs) c
+heard-at cs c w g =
+    let s = stays cs w g in
+    same-call (tableAt w cs) c (s .good) .answer ∙ ap (λ (b : Model). modelHeard b c) (s .model)
+
+-- ---- a fresh table, over any contents
+
+-- fresh accepts a first number that is not below 1
+pub fresh-ready : (w : Table) (n : PublisherNumber) → ltZ (n .0) (pos 1) ≡ false → freshOf w n .answer ≡ F.Ready
+unfolding freshOf freshAnswer
+fresh-ready w n h = rw h
+
+-- and no other
+pub ready-not-below : (w : Table) (n : PublisherNumber) → freshOf w n .answer ≡ F.Ready → ltZ (n .0) (pos 1) ≡ false
+unfolding freshOf freshAnswer
+ready-not-below w n r = go (ltZ (n .0) (pos 1)) r
+  where
+    go : (b : Bool) → pick {A = FreshAnswer} b (F.Refused 30) F.Ready ≡ F.Ready → b ≡ false
+    go true q = cc
+    go false q = refl
+
+zero-mask : (k i : ℕ) → _≡_ {A = ℕ} (getD (replicate k 0) i 0) 0
+zero-mask zero i = refl
+zero-mask (suc k) zero = refl
+zero-mask (suc k) (suc i) = zero-mask k i
+
+nothing : (x : Bool) → _≡_ {A = ℕ} (pick x 0 0) 0
+nothing true = refl
+nothing false = refl
+
+module _ (w : Table) (n : PublisherNumber) (z : Sized w) (low : ltZ (n .0) (pos 1) ≡ false) where
+  table : Table
+  table =
+      record {
+        masks = replicate 9 0;
+        numbers = take 128 (w .numbers) ++ replicate 8 (n .0);
+        places = w .places;
+        order = w .order;
+      }
+
+  fresh-is : freshOf w n .table ≡ table
+  unfolding freshOf freshMasks freshNumbers table
+  fresh-is = rw low
+
+  no-line : line table ≡ []
+  unfolding table line
+  no-line = ap (λ (k : ℕ). take k (laidOut (w .order) (slots 0) (replicate 64 0))) (ones-ones 0)
+
+  front : length (take 128 (w .numbers)) ≡ 128
+  front = length-take-le 128 (w .numbers) (let a = z .numbers in omega arith)
+
+  table-model : modelOf table ≡ empty n
+  unfolding table empty inFlight
+  table-model =
+      ap
+      (λ (xs : List ℕ). record {
+        requests = map (entry table) xs;
+        next = map (λ x. record { 0 = x }) (drop 128 (take 128 (w .numbers) ++ replicate 8 (n .0)));
+      })
+      no-line
+      ∙ ap (λ (xs : List ℤ). record { requests = []; next = map (λ x. record { 0 = x }) xs })
+      (drop-at (take 128 (w .numbers)) (replicate 8 (n .0)) 128 front)
+
+  table-tied : Tied table
+  unfolding table Below Aged
+  table-tied =
+      record {
+        fits = omega arith;
+        narrow = λ p. rw (zero-mask 9 (1 + p)) (omega arith);
+        low = rw no-line tt;
+        tie = λ i h. ap (occ i) no-line ∙ occ-nil i ∙ sym (bit-of-zero i);
+        own =
+            λ p h i k. ap (bitAt i) (zero-mask 9 (1 + p))
+            ∙ bit-of-zero i
+            ∙ sym
+            (ap (λ (b : ℕ). pick (eqb (getD (w .places) (64 + i) 0) p) b 0) (bit-of-zero i)
+            ∙ nothing (eqb (getD (w .places) (64 + i) 0) p));
+        whole = z .order;
+        aged = rw no-line tt;
+      }
+
+  table-sized : Sized table
+  unfolding table
+  table-sized =
+      record {
+        masks = refl;
+        numbers = length-append (take 128 (w .numbers)) (replicate 8 (n .0)) ∙ ap (λ (k : ℕ). k + 8) front;
+        places = z .places;
+        order = z .order;
+      }
+
+  -- it reads as the empty model
+  pub fresh-model : modelOf (freshOf w n .table) ≡ empty n
+  fresh-model = ap modelOf fresh-is ∙ table-model
+
+  pub fresh-good : Ranged n → Good (freshOf w n .table)
+  fresh-good r =
+      subst Good (sym fresh-is)
+      (record {
+        kept = record { tied = table-tied; sized = table-sized };
+        inv = subst Invariant (sym table-model) (inv-empty n r);
+      })
