@@ -2,22 +2,24 @@
 //! user would write by hand. All take turns on the same events, in one run.
 //!
 //! First mixed traffic, beside one hash map keyed by publisher and number. It keeps no rule of room, does not look
-//! whether a front number is in flight, and walks over all requests for a cancel, a closed link or a lost
-//! publisher. Then pairs of calls at a number of requests in flight, beside two hash maps that keep every rule
-//! (two_maps.rs, pairs.rs).
+//! whether a front number is in flight, and walks over all requests for a cancel or a gone peer. Then pairs of calls
+//! at a number of requests in flight, beside two hash maps that keep every rule (two_maps.rs, pairs.rs), and gone peers
+//! beside those and the second program (gone.rs).
 //!
 //! The library, the second program and the two hash maps give the same answers, which is checked first.
 
 use reference::event::Event;
 use reference::generator::Generator;
-use reference::table::Table as Second;
+use reference::table::{Side, Table as Second};
 use reference::traffic::{self, Traffic};
-use relay::{FrontNumber, PublisherNumber, Table, ALL_ENDS};
+use relay::{FrontNumber, OtherEnds, Peer, PublisherNumber, Table, ALL_ENDS};
 use std::collections::HashMap;
 use std::convert::Infallible;
 use std::hint::black_box;
 use std::time::Instant;
 
+#[path = "gone.rs"]
+mod gone;
 #[path = "pairs.rs"]
 mod pairs;
 #[path = "two_maps.rs"]
@@ -28,7 +30,7 @@ use two_maps::TwoMaps;
 const EVENTS: u64 = 200_000;
 const ROUNDS: usize = 25;
 
-/// Every answer as a number or two, and a refusal as its number; the ends of closed and lost as their sum.
+/// Every answer as a number or two, and a refusal as its number; the ends of a gone peer's requests as their sum.
 type Answer = (i64, i64);
 
 fn ours(table: &mut Table, event: Event, ends: &mut [i64]) -> Answer {
@@ -43,14 +45,20 @@ fn ours(table: &mut Table, event: Event, ends: &mut [i64]) -> Answer {
         Event::Cancel(link, number) => {
             table.cancel(link, FrontNumber(number)).map_or_else(refused, |(publisher, n)| (i64::from(publisher), n.0))
         }
-        Event::Closed(link) => match table.closed(link, ends) {
-            Ok(ends) => (ends.len() as i64, ends.map(|(publisher, n)| i64::from(publisher) ^ n.0).sum()),
+        Event::Gone(side, number) => match table.gone(peer(side, number), ends) {
+            Ok(OtherEnds::Publishers(ends)) => {
+                (ends.len() as i64, ends.map(|(publisher, n)| i64::from(publisher) ^ n.0).sum())
+            }
+            Ok(OtherEnds::Fronts(ends)) => (ends.len() as i64, ends.map(|(link, n)| i64::from(link) ^ n.0).sum()),
             Err(refusal) => refused(refusal),
         },
-        Event::Lost(publisher) => match table.lost(publisher, ends) {
-            Ok(ends) => (ends.len() as i64, ends.map(|(link, n)| i64::from(link) ^ n.0).sum()),
-            Err(refusal) => refused(refusal),
-        },
+    }
+}
+
+fn peer(side: Side, number: u8) -> Peer {
+    match side {
+        Side::Front => Peer::Front(number),
+        Side::Publisher => Peer::Publisher(number),
     }
 }
 
@@ -64,7 +72,7 @@ fn second(table: &mut Second, event: Event, ends: &mut [i64]) -> Answer {
     match event.call(table, ends) {
         Ok(Ask(number)) => (number, 0),
         Ok(Reply((place, number)) | Cancel((place, number))) => (i64::from(place), number),
-        Ok(Closed(count) | Lost(count)) => summed(count, ends),
+        Ok(Gone(_, count)) => summed(count, ends),
         Err(refusal) => (-i64::from(refusal.number()), 0),
     }
 }
@@ -78,8 +86,10 @@ fn by_maps(table: &mut TwoMaps, event: Event, ends: &mut [i64]) -> Answer {
         }
         Event::Reply(publisher, number) => table.reply(publisher, number).map_or_else(refused, end),
         Event::Cancel(link, number) => table.cancel(link, number).map_or_else(refused, end),
-        Event::Closed(link) => table.closed(link, ends).map_or_else(refused, |count| summed(count, ends)),
-        Event::Lost(publisher) => table.lost(publisher, ends).map_or_else(refused, |count| summed(count, ends)),
+        Event::Gone(side, number) => {
+            let gone = table.gone(side == Side::Publisher, number, ends);
+            gone.map_or_else(refused, |count| summed(count, ends))
+        }
     }
 }
 
@@ -108,14 +118,12 @@ fn plain(table: &mut Plain, event: Event) -> Answer {
             }
             None => (-34, 0),
         },
-        Event::Closed(link) => {
+        Event::Gone(side, number) => {
             let before = table.requests.len();
-            table.requests.retain(|_, front| front.0 != link);
-            ((before - table.requests.len()) as i64, 0)
-        }
-        Event::Lost(publisher) => {
-            let before = table.requests.len();
-            table.requests.retain(|key, _| key.0 != publisher);
+            match side {
+                Side::Front => table.requests.retain(|_, front| front.0 != number),
+                Side::Publisher => table.requests.retain(|key, _| key.0 != number),
+            }
             ((before - table.requests.len()) as i64, 0)
         }
     }
@@ -197,4 +205,5 @@ fn main() {
     }
     pairs::print(Freed::Oldest);
     pairs::print(Freed::Random);
+    gone::print();
 }

@@ -100,18 +100,13 @@ impl TwoMaps {
         Ok(publisher)
     }
 
-    pub fn closed(&mut self, link: u8, out: &mut [i64]) -> Result<usize, u8> {
-        if link > 31 {
-            return Err(30);
+    /// The publisher of this number is lost, or the front link closed.
+    pub fn gone(&mut self, publisher: bool, number: u8, out: &mut [i64]) -> Result<usize, u8> {
+        match publisher {
+            true if number < 8 => self.free(|_, key| key.0 == number, |front, _| front, out),
+            false if number < 32 => self.free(|front, _| front.0 == number, |_, publisher| publisher, out),
+            _ => Err(30),
         }
-        self.free(|front, _| front.0 == link, |_, publisher| publisher, out)
-    }
-
-    pub fn lost(&mut self, publisher: u8, out: &mut [i64]) -> Result<usize, u8> {
-        if publisher > 7 {
-            return Err(30);
-        }
-        self.free(|_, key| key.0 == publisher, |front, _| front, out)
     }
 
     /// Frees the chosen requests, given by front and publisher, and writes the ends that are wanted, oldest first.

@@ -444,7 +444,24 @@ typedef struct relay_table {
                              has here, in numbers and in places means nothing */
 } relay_table;
 
-/* Numbers in a slice that relay_closed and relay_lost never find too short: two for each of 64 requests. */
+/* Who is at the other end of a connection: a front link or a publisher, made by relay_front or relay_publisher. A type
+ * of its own, so that a side is not taken for a number. */
+typedef struct relay_peer {
+    bool publisher; /* a publisher; else a front link */
+    uint8_t number; /* the publisher's, 0 to 7, or the link's, 0 to 31 */
+} relay_peer;
+
+static inline relay_peer relay_front(uint8_t link) {
+    relay_peer peer = {false, link};
+    return peer;
+}
+
+static inline relay_peer relay_publisher(uint8_t publisher) {
+    relay_peer peer = {true, publisher};
+    return peer;
+}
+
+/* Numbers in a slice that relay_gone never finds too short: two for each of 64 requests. */
 #define RELAY_ALL_ENDS 128
 
 /* In the answers below, refusal is 0 where the call was not refused; the other fields are 0 where it was. A refused
@@ -482,10 +499,8 @@ relay_replied relay_reply_lent(uint64_t masks[9], const int64_t numbers[136], co
                                uint8_t order[64], uint8_t publisher, relay_publisher_number number);
 relay_cancelled relay_cancel_lent(uint64_t masks[9], const int64_t numbers[136], const uint8_t places[128],
                                   uint8_t order[64], uint8_t link, relay_front_number number);
-relay_dropped relay_closed_lent(uint64_t masks[9], const int64_t numbers[136], const uint8_t places[128],
-                                uint8_t order[64], uint8_t link, int64_t *out, size_t n);
-relay_dropped relay_lost_lent(uint64_t masks[9], const int64_t numbers[136], const uint8_t places[128],
-                              uint8_t order[64], uint8_t publisher, int64_t *out, size_t n);
+relay_dropped relay_gone_lent(uint64_t masks[9], const int64_t numbers[136], const uint8_t places[128],
+                              uint8_t order[64], bool publisher, uint8_t number, int64_t *out, size_t n);
 
 /* Makes an empty table of whatever stands there; first is the first number of every publisher. Answers 0, or 30 for a
  * first number below 1: all four members are then as they were, and what was no table before must not be used. */
@@ -513,17 +528,17 @@ static inline relay_cancelled relay_cancel(relay_table *table, uint8_t link, rel
     return relay_cancel_lent(table->masks, table->numbers, table->places, table->order, link, number);
 }
 
-/* A front link closed: frees all its requests and writes publisher and publisher number of each to the front of out,
- * oldest accepted first; out past them stays. Answers how many there were, which may be 0. Refused with 30 for a link
- * out of range, and 16 where out, n numbers long, has not two for each: RELAY_ALL_ENDS always do. */
-static inline relay_dropped relay_closed(relay_table *table, uint8_t link, int64_t *out, size_t n) {
-    return relay_closed_lent(table->masks, table->numbers, table->places, table->order, link, out, n);
-}
-
-/* A publisher is lost: the same for its requests, with link and front number of each. Refused with 30 for a publisher
- * out of range, and 16. Its numbers go on where they were. */
-static inline relay_dropped relay_lost(relay_table *table, uint8_t publisher, int64_t *out, size_t n) {
-    return relay_lost_lent(table->masks, table->numbers, table->places, table->order, publisher, out, n);
+/* A peer is gone: frees all its requests and writes the other end of each to the front of out, oldest accepted first;
+ * out past them stays. Answers how many there were, which may be 0.
+ *
+ *     relay_gone(&table, relay_front(link), out, n)            a front link closed: publisher and publisher number
+ *     relay_gone(&table, relay_publisher(publisher), out, n)   a publisher is lost: link and front number
+ *
+ * Refused with 30 for a link over 31 or a publisher over 7, and 16 where out, n numbers long, has not two for each:
+ * RELAY_ALL_ENDS always do. The numbers of a lost publisher go on where they were. */
+static inline relay_dropped relay_gone(relay_table *table, relay_peer peer, int64_t *out, size_t n) {
+    return relay_gone_lent(table->masks, table->numbers, table->places, table->order, peer.publisher, peer.number, out,
+                           n);
 }
 
 #ifdef __cplusplus

@@ -24,6 +24,39 @@ static relay_part pass(relay_link *from, relay_link *to, relay_outgoing what, co
     return relay_body(buf, sent.size, arrival);
 }
 
+/* A publisher is lost, or a front link closed: whom the program would tell, under which number. */
+static void gone(relay_table *table, relay_peer peer) {
+    int64_t ends[RELAY_ALL_ENDS];
+    relay_dropped dropped = relay_gone(table, peer, ends, RELAY_ALL_ENDS);
+    const char *who = peer.publisher ? "publisher" : "link", *other = peer.publisher ? "link" : "publisher";
+    for (size_t i = 0; i < dropped.count; i++) {
+        printf("%s %d gone: %s %lld, number %lld\n", who, peer.number, other, (long long)ends[2 * i],
+               (long long)ends[2 * i + 1]);
+    }
+}
+
+/* Requests under one front number, and how each of them ends. */
+static int requests(relay_front_number number) {
+    relay_publisher_number first = {1};
+    relay_table table;
+    if (relay_fresh(&table, first) != 0) {
+        return 1;
+    }
+    relay_asked asked = relay_ask(&table, 3, number, 0);
+    printf("asked: publisher 0 gets it as %lld\n", (long long)asked.number.value);
+    relay_replied replied = relay_reply(&table, 0, asked.number);
+    printf("replied: to link %d, number %lld\n", replied.link, (long long)replied.number.value);
+    relay_cancelled late = relay_cancel(&table, 3, number);
+    printf("cancelled too late: %d\n", late.refusal);
+
+    /* Both a link and a publisher are 7, and each has one of these. */
+    relay_ask(&table, 4, number, 7);
+    relay_ask(&table, 7, number, 2);
+    gone(&table, relay_publisher(7));
+    gone(&table, relay_front(7));
+    return 0;
+}
+
 int main(void) {
     relay_settings client = {.server = false, .allows = true}, server = {.server = true, .allows = true};
     relay_link front = relay_set_up(client).link, ours = relay_set_up(server).link;
@@ -46,22 +79,6 @@ int main(void) {
     printf("kind %d, number %lld, actor %lld, payload %.*s\n", message.kind, (long long)message.number,
            (long long)message.actor, (int)message.len, (const char *)buf + body.at + message.at);
 
-    relay_publisher_number first = {1};
-    relay_table table;
-    if (relay_fresh(&table, first) != 0) {
-        return 1;
-    }
     relay_front_number number = {message.number};
-    relay_asked asked = relay_ask(&table, 3, number, 0);
-    printf("asked: publisher 0 gets it as %lld\n", (long long)asked.number.value);
-    relay_replied replied = relay_reply(&table, 0, asked.number);
-    printf("replied: to link %d, number %lld\n", replied.link, (long long)replied.number.value);
-    relay_cancelled late = relay_cancel(&table, 3, number);
-    printf("cancelled too late: %d\n", late.refusal);
-
-    relay_ask(&table, 4, number, 7);
-    int64_t ends[RELAY_ALL_ENDS];
-    relay_dropped dropped = relay_lost(&table, 7, ends, RELAY_ALL_ENDS);
-    printf("lost: %zu, link %lld, number %lld\n", dropped.count, (long long)ends[0], (long long)ends[1]);
-    return 0;
+    return requests(number);
 }

@@ -2,7 +2,7 @@
 
 use crate::numbers::read_i64;
 use crate::refusal::Refusal;
-use crate::table::{End, Table};
+use crate::table::{End, Side, Table};
 use std::io::{self, BufRead, ErrorKind, Read};
 
 #[derive(Clone, Copy, Debug, PartialEq, Eq)]
@@ -13,21 +13,18 @@ pub enum Event {
     Reply(u8, i64),
     /// Link, front number.
     Cancel(u8, i64),
-    /// Link.
-    Closed(u8),
-    /// Publisher.
-    Lost(u8),
+    /// The side and number of a peer: a link closed, or a publisher lost.
+    Gone(Side, u8),
 }
 
-/// What the table hands back; closed and lost give a count, and write the
-/// other ends into the slice they are lent.
+/// What the table hands back; a gone peer gives its side and a count, and the
+/// other ends stand in the slice that was lent.
 #[derive(Clone, Copy, Debug, PartialEq, Eq)]
 pub enum Answer {
     Ask(i64),
     Reply(End),
     Cancel(End),
-    Closed(usize),
-    Lost(usize),
+    Gone(Side, usize),
 }
 
 const LONGEST_BODY: usize = 10;
@@ -67,14 +64,14 @@ impl Event {
             1 => Event::Ask(body[0], number, body[9]),
             2 => Event::Reply(body[0], number),
             3 => Event::Cancel(body[0], number),
-            4 => Event::Closed(body[0]),
-            _ => Event::Lost(body[0]),
+            4 => Event::Gone(Side::Front, body[0]),
+            _ => Event::Gone(Side::Publisher, body[0]),
         }
     }
 
     pub fn encode(self, bytes: &mut Vec<u8>) {
-        let mut put = |kind, side, number: &[u8]| {
-            bytes.extend([kind, side]);
+        let mut put = |kind, peer, number: &[u8]| {
+            bytes.extend([kind, peer]);
             bytes.extend(number);
         };
         match self {
@@ -84,8 +81,7 @@ impl Event {
             }
             Event::Reply(publisher, number) => put(2, publisher, &number.to_le_bytes()),
             Event::Cancel(link, number) => put(3, link, &number.to_le_bytes()),
-            Event::Closed(link) => put(4, link, &[]),
-            Event::Lost(publisher) => put(5, publisher, &[]),
+            Event::Gone(side, number) => put(side.of(4, 5), number, &[]),
         }
     }
 
@@ -97,8 +93,10 @@ impl Event {
             }
             Event::Reply(publisher, number) => table.reply(publisher, number).map(Answer::Reply),
             Event::Cancel(link, number) => table.cancel(link, number).map(Answer::Cancel),
-            Event::Closed(link) => table.closed(link, ends).map(Answer::Closed),
-            Event::Lost(publisher) => table.lost(publisher, ends).map(Answer::Lost),
+            Event::Gone(side, number) => {
+                let count = table.gone(side, number, ends);
+                count.map(|count| Answer::Gone(side, count))
+            }
         }
     }
 }
@@ -111,8 +109,8 @@ mod tests {
         Event::Ask(3, i64::MIN, 7),
         Event::Reply(255, 0x0102_0304_0506_0708),
         Event::Cancel(0, -2),
-        Event::Closed(31),
-        Event::Lost(8),
+        Event::Gone(Side::Front, 31),
+        Event::Gone(Side::Publisher, 8),
     ];
 
     #[test]

@@ -56,7 +56,12 @@ mod message_zero_reads;
 mod message_zero_writes;
 mod records;
 mod walk_cases;
+mod walk_crowd;
+mod walk_gone;
+#[cfg(test)]
+mod walk_lines;
 mod walk_long;
+mod walk_play;
 mod walk_scripts;
 mod walk_slots;
 mod wire_cases;

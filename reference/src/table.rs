@@ -1,7 +1,7 @@
 //! The table of requests in flight ("ticket table" in document 01).
 //!
 //! A request is found by either of its ends through a hash map; its serial
-//! number gives the order of acceptance, which closed and lost go by.
+//! number gives the order of acceptance, by which a gone peer's are listed.
 
 #[cfg(test)]
 pub(crate) mod book;
@@ -23,7 +23,36 @@ const LARGEST_LOAD: usize = 16;
 /// One end of a request: a front link and its number, or a publisher and its.
 pub type End = (u8, i64);
 
+/// The side that a peer stands on: front links or publishers.
+#[derive(Clone, Copy, Debug, PartialEq, Eq)]
+pub enum Side {
+    Front,
+    Publisher,
+}
+
+impl Side {
+    pub const BOTH: [Side; 2] = [Side::Front, Side::Publisher];
+
+    /// Whichever of the two belongs to this side.
+    pub fn of<T>(self, front: T, publisher: T) -> T {
+        match self {
+            Side::Front => front,
+            Side::Publisher => publisher,
+        }
+    }
+
+    pub fn other(self) -> Side {
+        self.of(Side::Publisher, Side::Front)
+    }
+
+    /// How many peers the side has.
+    fn peers(self) -> u8 {
+        self.of(LINKS, PUBLISHERS)
+    }
+}
+
 #[derive(Clone, Copy)]
+#[cfg_attr(test, derive(Debug, PartialEq))]
 pub struct Request {
     /// Front link and front number.
     pub front: End,
@@ -32,6 +61,13 @@ pub struct Request {
     serial: u64,
 }
 
+impl Request {
+    fn end(&self, side: Side) -> End {
+        side.of(self.front, self.publisher)
+    }
+}
+
+#[cfg_attr(test, derive(Clone, Debug, PartialEq))]
 pub struct Table {
     slots: [Option<Request>; ROOM],
     free: Vec<usize>,
@@ -92,18 +128,20 @@ impl Table {
         Ok(self.remove(slot).publisher)
     }
 
-    /// Frees all requests of a front link; writes their publisher ends.
-    pub fn closed(&mut self, link: u8, ends: &mut [i64]) -> Result<usize, Refusal> {
-        in_range(link, LINKS)?;
-        let gone = self.oldest_first(|request| request.front.0 == link);
-        self.remove_all(&gone, ends, |request| request.publisher)
-    }
-
-    /// Frees all requests of a publisher; writes their front ends.
-    pub fn lost(&mut self, publisher: u8, ends: &mut [i64]) -> Result<usize, Refusal> {
-        in_range(publisher, PUBLISHERS)?;
-        let gone = self.oldest_first(|request| request.publisher.0 == publisher);
-        self.remove_all(&gone, ends, |request| request.front)
+    /// Frees all requests of the peer with this number on its side, oldest
+    /// accepted first; writes their ends on the other side, and hands back how
+    /// many they were.
+    pub fn gone(&mut self, side: Side, number: u8, ends: &mut [i64]) -> Result<usize, Refusal> {
+        in_range(number, side.peers())?;
+        let slots = self.oldest_first(|request| request.end(side).0 == number);
+        if ends.len() / 2 < slots.len() {
+            return Err(Refusal::BufferTooSmall);
+        }
+        for (&slot, pair) in slots.iter().zip(ends.chunks_exact_mut(2)) {
+            let (peer, number) = self.remove(slot).end(side.other());
+            pair.copy_from_slice(&[i64::from(peer), number]);
+        }
+        Ok(slots.len())
     }
 
     /// The requests in flight, in no particular order.
@@ -181,22 +219,6 @@ impl Table {
             .collect();
         found.sort_unstable();
         found.into_iter().map(|(_, slot)| slot).collect()
-    }
-
-    fn remove_all(
-        &mut self,
-        gone: &[usize],
-        ends: &mut [i64],
-        other_end: impl Fn(Request) -> End,
-    ) -> Result<usize, Refusal> {
-        if ends.len() / 2 < gone.len() {
-            return Err(Refusal::BufferTooSmall);
-        }
-        for (&slot, pair) in gone.iter().zip(ends.chunks_exact_mut(2)) {
-            let (side, number) = other_end(self.remove(slot));
-            pair.copy_from_slice(&[i64::from(side), number]);
-        }
-        Ok(gone.len())
     }
 }
 

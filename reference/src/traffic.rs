@@ -3,7 +3,7 @@
 
 use crate::event::Event;
 use crate::generator::Generator;
-use crate::table::{Request, Table, LINKS, PUBLISHERS};
+use crate::table::{Request, Side, Table, LINKS, PUBLISHERS};
 
 /// Shares of the events, out of 1000; the remaining ones are asks.
 #[derive(Clone, Copy)]
@@ -98,9 +98,9 @@ impl Traffic {
             hit
         };
         if falls_in(closed) {
-            Event::Closed(self.link())
+            Event::Gone(Side::Front, self.link())
         } else if falls_in(lost) {
-            Event::Lost(self.publisher())
+            Event::Gone(Side::Publisher, self.publisher())
         } else if falls_in(strays) {
             self.stray(table)
         } else if falls_in(cancels) {
@@ -166,8 +166,11 @@ impl Traffic {
             (1, _) => Event::Ask(link, number, self.generator.pick(&[8, 9, 136, 255])),
             (2, _) => Event::Reply(self.generator.pick(&[8, 9, 255]), number),
             (3, _) => Event::Cancel(beyond, number),
-            (4, _) => Event::Closed(beyond),
-            (5, _) => Event::Lost(self.generator.pick(&[8, 9, 16, 255])),
+            (4, _) => Event::Gone(Side::Front, beyond),
+            (5, _) => {
+                let beyond = self.generator.pick(&[8, 9, 16, 255]);
+                Event::Gone(Side::Publisher, beyond)
+            }
             (6, Some(request)) => Event::Ask(request.front.0, request.front.1, publisher),
             // The right number at the wrong side.
             (7, Some(request)) => Event::Reply(publisher, request.front.1),

@@ -9,6 +9,15 @@ use std::io::{self, BufRead, Write};
 ///
 /// Writes line by line: the output, too, is to be buffered.
 pub fn walk(mut table: Table, input: &mut impl BufRead, output: &mut impl Write) -> io::Result<()> {
+    walk_by(|event, ends| event.call(&mut table, ends), input, output)
+}
+
+/// The walk over whatever answers in place of a table.
+pub fn walk_by(
+    mut call: impl FnMut(Event, &mut [i64]) -> Result<Answer, Refusal>,
+    input: &mut impl BufRead,
+    output: &mut impl Write,
+) -> io::Result<()> {
     // Room for every request, so 16 never comes.
     let mut ends = [0; 2 * ROOM];
     while let Some(event) = Event::read(input)? {
@@ -16,7 +25,7 @@ pub fn walk(mut table: Table, input: &mut impl BufRead, output: &mut impl Write)
             Ok(event) => event,
             Err(refusal) => return write_refusal(output, refusal),
         };
-        match event.call(&mut table, &mut ends) {
+        match call(event, &mut ends) {
             Ok(answer) => write_answer(output, answer, &ends)?,
             Err(refusal) => write_refusal(output, refusal)?,
         }
@@ -33,13 +42,14 @@ fn write_answer(output: &mut impl Write, answer: Answer, ends: &[i64]) -> io::Re
         Answer::Ask(number) => writeln!(output, "ask {number}"),
         Answer::Reply(front) => write_end(output, "reply", front),
         Answer::Cancel(publisher) => write_end(output, "cancel", publisher),
-        Answer::Closed(count) => write_drops(output, "closed", &ends[..2 * count]),
-        Answer::Lost(count) => write_drops(output, "lost", &ends[..2 * count]),
+        Answer::Gone(side, count) => {
+            write_drops(output, side.of("closed", "lost"), &ends[..2 * count])
+        }
     }
 }
 
-fn write_end(output: &mut impl Write, word: &str, (side, number): End) -> io::Result<()> {
-    writeln!(output, "{word} {side} {number}")
+fn write_end(output: &mut impl Write, word: &str, (peer, number): End) -> io::Result<()> {
+    writeln!(output, "{word} {peer} {number}")
 }
 
 fn write_drops(output: &mut impl Write, word: &str, ends: &[i64]) -> io::Result<()> {
@@ -69,6 +79,15 @@ mod tests {
     fn a_bad_event_stops_the_walk() {
         assert_eq!(lines(&[4, 0, 6, 4, 0]), "closed 0\nno 35\n");
         assert_eq!(lines(&[5, 0, 2, 0, 1]), "lost 0\nno 35\n");
+    }
+
+    #[test]
+    fn a_gone_peer_prints_by_its_side() {
+        let ask = [1, 3, 77, 0, 0, 0, 0, 0, 0, 0, 5];
+        let closed = [&ask[..], &[4, 3]].concat();
+        assert_eq!(lines(&closed), "ask 1\nclosed 1\ndrop 5 1\n");
+        let lost = [&ask[..], &[5, 5]].concat();
+        assert_eq!(lines(&lost), "ask 1\nlost 1\ndrop 3 77\n");
     }
 
     #[test]

@@ -50,4 +50,4 @@ pub use numbers::{FrontNumber, PublisherNumber};
 pub use refusal::Refusal;
 pub use send::ToSend;
 pub use session::{Address, Addresses, Card, Fault, Packet, Session};
-pub use table::{Table, ALL_ENDS, LINKS, PUBLISHERS};
+pub use table::{EndList, OtherEnds, Peer, Table, ALL_ENDS, LINKS, PUBLISHERS};

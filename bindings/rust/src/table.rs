@@ -1,12 +1,35 @@
 //! The table of requests in flight (document 01: the ticket table).
 
+mod ends;
+
+pub use ends::{EndList, OtherEnds};
+
 use crate::{raw, FrontNumber, PublisherNumber, Refusal};
+use std::fmt;
 
 /// Front links are 0 to 31, publishers 0 to 7.
 pub const LINKS: u8 = 32;
 pub const PUBLISHERS: u8 = 8;
-/// The length of a slice that `closed` and `lost` never find too short.
+/// The length of a slice that `gone` never finds too short.
 pub const ALL_ENDS: usize = 2 * 64;
+
+/// Who is at the other end of a connection.
+#[derive(Clone, Copy, Debug, PartialEq, Eq, Hash)]
+pub enum Peer {
+    /// A front end, by its link, 0 to 31.
+    Front(u8),
+    /// A publisher, 0 to 7.
+    Publisher(u8),
+}
+
+impl fmt::Display for Peer {
+    fn fmt(&self, f: &mut fmt::Formatter) -> fmt::Result {
+        match self {
+            Peer::Front(link) => write!(f, "front end {link}"),
+            Peer::Publisher(publisher) => write!(f, "publisher {publisher}"),
+        }
+    }
+}
 
 /// Which front link asked which publisher, under which numbers.
 ///
@@ -63,27 +86,33 @@ impl Table {
         Refusal::unless(cancelled.refusal, (cancelled.publisher, cancelled.number))
     }
 
-    /// A front link closed: frees its requests; hands back the publisher and
-    /// publisher number of each, oldest accepted first, which it wrote to the
-    /// front of `out`. What lies past them stays.
-    pub fn closed<'a>(
-        &mut self,
-        link: u8,
-        out: &'a mut [i64],
-    ) -> Result<impl ExactSizeIterator<Item = (u8, PublisherNumber)> + 'a, Refusal> {
-        let dropped = raw::relay_closed(&mut self.0, link, out);
-        Refusal::unless(dropped.refusal, ends(out, dropped.count, PublisherNumber))
-    }
-
-    /// A publisher is lost: frees its requests; hands back the link and front
-    /// number of each, as `closed` does.
-    pub fn lost<'a>(
-        &mut self,
-        publisher: u8,
-        out: &'a mut [i64],
-    ) -> Result<impl ExactSizeIterator<Item = (u8, FrontNumber)> + 'a, Refusal> {
-        let dropped = raw::relay_lost(&mut self.0, publisher, out);
-        Refusal::unless(dropped.refusal, ends(out, dropped.count, FrontNumber))
+    /// A front link closed or a publisher is lost: frees its requests; hands
+    /// back the other end of each, oldest accepted first, which it wrote to the
+    /// front of `out`. What lies past them stays. A lost publisher's numbering
+    /// goes on.
+    ///
+    /// ```
+    /// use relay::{FrontNumber, OtherEnds, Peer, PublisherNumber, Table, ALL_ENDS};
+    ///
+    /// let mut table = Table::new(PublisherNumber(1))?;
+    /// table.ask(3, FrontNumber(77), 0)?;
+    /// let mut ends = [0; ALL_ENDS];
+    /// match table.gone(Peer::Front(3), &mut ends)? {
+    ///     // To be cancelled.
+    ///     OtherEnds::Publishers(ends) => assert!(ends.eq([(0, PublisherNumber(1))])),
+    ///     // To be told that no answer comes.
+    ///     OtherEnds::Fronts(_) => unreachable!("those of a publisher's requests"),
+    /// }
+    /// # Ok::<(), relay::Refusal>(())
+    /// ```
+    pub fn gone<'a>(&mut self, peer: Peer, out: &'a mut [i64]) -> Result<OtherEnds<'a>, Refusal> {
+        let (publisher, number) = match peer {
+            Peer::Front(link) => (false, link),
+            Peer::Publisher(publisher) => (true, publisher),
+        };
+        let dropped = raw::relay_gone(&mut self.0, publisher, number, out);
+        let ends = OtherEnds::of(peer, &out[..2 * dropped.count]);
+        Refusal::unless(dropped.refusal, ends)
     }
 
     /// The state as it crosses the C interface.
@@ -91,15 +120,4 @@ impl Table {
     pub fn raw(&mut self) -> &mut raw::Table {
         &mut self.0
     }
-}
-
-/// The first `count` pairs of `out`: a link or publisher, and a number.
-fn ends<'a, N>(
-    out: &'a [i64],
-    count: usize,
-    number: fn(i64) -> N,
-) -> impl ExactSizeIterator<Item = (u8, N)> + use<'a, N> {
-    out[..2 * count]
-        .chunks_exact(2)
-        .map(move |end| (end[0] as u8, number(end[1])))
 }

@@ -39,7 +39,8 @@ kind 1, number 77, actor -5, payload page 1
 asked: publisher 0 gets it as 1
 replied: to link 3, number 77
 cancelled too late: 34
-lost: 1, link 4, number 77
+publisher 7 gone: link 4, number 77
+link 7 gone: publisher 2, number 1
 ";
     assert_eq!(printed("example", &[]), expected);
 }

@@ -7,7 +7,7 @@ use random::Random;
 use relay::keys::NonceFields;
 use relay::{
     checksum, clock_difference, net_pids, packet_type, read_message, Arrival, FrontNumber, Invoke,
-    Link, Message, Moment, NetPid, NetPids, PublisherNumber, Refusal, Settings, Side, Table,
+    Link, Message, Moment, NetPid, NetPids, Peer, PublisherNumber, Refusal, Settings, Side, Table,
     ToSend,
 };
 use std::collections::BTreeSet;
@@ -245,8 +245,9 @@ fn numbers_out_of_any_range_at_the_table() {
         let _ = table.ask(a % 40, FrontNumber(number), b % 10);
         let _ = table.reply(a % 10, PublisherNumber(number));
         let _ = table.cancel(a % 40, FrontNumber(number));
-        let _ = table.closed(b, &mut out[..usize::from(a % 8)]).map(drop);
-        let _ = table.lost(b, &mut out[..usize::from(a % 8)]).map(drop);
+        for peer in [Peer::Front(b), Peer::Publisher(b)] {
+            let _ = table.gone(peer, &mut out[..usize::from(a % 8)]).map(drop);
+        }
     }
 }
 

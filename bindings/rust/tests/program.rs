@@ -1,6 +1,6 @@
 //! The example of document 01's program, through the table.
 
-use relay::{FrontNumber, PublisherNumber, Refusal, Table, ALL_ENDS};
+use relay::{FrontNumber, OtherEnds, Peer, PublisherNumber, Refusal, Table, ALL_ENDS};
 
 /// One line for each answer, as the program prints it.
 struct Lines(Vec<String>);
@@ -26,16 +26,19 @@ impl Lines {
         self.add(cancelled.map(|(publisher, number)| format!("cancel {publisher} {}", number.0)));
     }
 
-    fn drops<N>(
-        &mut self,
-        word: &str,
-        ends: Result<impl ExactSizeIterator<Item = (u8, N)>, Refusal>,
-        number: fn(N) -> i64,
-    ) {
+    /// The program has a word for either side.
+    fn gone(&mut self, table: &mut Table, peer: Peer) {
+        let mut out = [0; ALL_ENDS];
+        let ends = table.gone(peer, &mut out);
         let ends = ends.expect("a link or publisher in range, and room for all ends");
-        self.0.push(format!("{word} {}", ends.len()));
+        let count = ends.len();
+        let (word, ends): (&str, Vec<(u8, i64)>) = match ends {
+            OtherEnds::Publishers(ends) => ("closed", ends.map(|(p, n)| (p, n.0)).collect()),
+            OtherEnds::Fronts(ends) => ("lost", ends.map(|(link, n)| (link, n.0)).collect()),
+        };
+        self.0.push(format!("{word} {count}"));
         self.0
-            .extend(ends.map(|(other, n)| format!("drop {other} {}", number(n))));
+            .extend(ends.iter().map(|(other, n)| format!("drop {other} {n}")));
     }
 }
 
@@ -43,7 +46,6 @@ impl Lines {
 fn the_example_of_the_program() {
     let mut table = Table::new(PublisherNumber(1)).unwrap();
     let mut lines = Lines(Vec::new());
-    let mut out = [0; ALL_ENDS];
     lines.ask(&mut table, 3, 77, 0);
     lines.ask(&mut table, 3, 77, 1);
     lines.ask(&mut table, 4, 77, 0);
@@ -52,8 +54,8 @@ fn the_example_of_the_program() {
     lines.cancel(&mut table, 3, 77);
     lines.ask(&mut table, 3, 77, 0);
     lines.ask(&mut table, 3, 0, 0);
-    lines.drops("lost", table.lost(0, &mut out), |number| number.0);
-    lines.drops("closed", table.closed(3, &mut out), |number| number.0);
+    lines.gone(&mut table, Peer::Publisher(0));
+    lines.gone(&mut table, Peer::Front(3));
     let expected = "ask 1\nno 31\nask 2\nreply 4 77\nno 34\ncancel 0 1\nask 3\nno 12\nlost 1\ndrop 3 77\nclosed 0";
     assert_eq!(lines.0.join("\n"), expected);
 }
@@ -84,22 +86,6 @@ fn loads_16_16_12_and_the_reserve() {
 }
 
 #[test]
-fn drops_into_a_slice_too_short() {
-    let mut table = Table::new(PublisherNumber(5)).unwrap();
-    fill(&mut table, 7, 2, 10);
-    let mut out = [-1; 5];
-    assert_eq!(
-        table.lost(7, &mut out[..3]).err(),
-        Some(Refusal::BUFFER_TOO_SMALL)
-    );
-    assert_eq!(out, [-1; 5]);
-    let ends: Vec<_> = table.lost(7, &mut out).unwrap().collect();
-    assert_eq!(ends, [(0, FrontNumber(10)), (0, FrontNumber(11))]);
-    assert_eq!(out, [0, 10, 0, 11, -1]);
-    assert_eq!(table.lost(7, &mut []).unwrap().len(), 0);
-}
-
-#[test]
 fn out_of_range() {
     let refused = Table::new(PublisherNumber(0)).err();
     assert_eq!(refused, Some(Refusal::OUT_OF_RANGE));
@@ -108,6 +94,8 @@ fn out_of_range() {
     assert_eq!(refused, Some(Refusal::OUT_OF_RANGE));
     let refused = table.reply(8, PublisherNumber(0)).err();
     assert_eq!(refused, Some(Refusal::OUT_OF_RANGE));
-    let refused = table.closed(32, &mut []).err();
-    assert_eq!(refused, Some(Refusal::OUT_OF_RANGE));
+    for peer in [Peer::Front(32), Peer::Publisher(8)] {
+        let refused = table.gone(peer, &mut []).err();
+        assert_eq!(refused, Some(Refusal::OUT_OF_RANGE));
+    }
 }

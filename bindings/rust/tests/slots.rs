@@ -5,7 +5,7 @@
 mod random;
 
 use random::Random;
-use relay::{raw, FrontNumber, PublisherNumber, Table, ALL_ENDS};
+use relay::{raw, FrontNumber, OtherEnds, Peer, PublisherNumber, Table, ALL_ENDS};
 
 /// The places of the used slots are those from 0 on, each once.
 fn has_every_place_once(raw: &raw::Table) {
@@ -52,6 +52,14 @@ fn a_clone_goes_its_own_way() {
     assert_eq!(table.reply(0, PublisherNumber(1)).unwrap().0, 1);
 }
 
+/// Takes every end.
+fn counted(ends: OtherEnds) -> usize {
+    match ends {
+        OtherEnds::Publishers(ends) => ends.count(),
+        OtherEnds::Fronts(ends) => ends.count(),
+    }
+}
+
 /// What the wrapper makes of the answers holds for any contents: no more ends
 /// than the slice has.
 #[test]
@@ -72,9 +80,11 @@ fn garbage_never_panics() {
         let _ = table.reply(b, PublisherNumber(number));
         let _ = table.cancel(a, FrontNumber(number));
         let room = random.below(ALL_ENDS + 1);
-        let lost = table.lost(b, &mut out[..room]).map(Iterator::count);
+        let lost = table
+            .gone(Peer::Publisher(b), &mut out[..room])
+            .map(counted);
         assert!(lost.is_err() || 2 * lost.unwrap() <= room);
-        let closed = table.closed(a, &mut out).map(Iterator::count);
+        let closed = table.gone(Peer::Front(a), &mut out).map(counted);
         assert_eq!(closed.is_ok(), a < 32);
     }
 }

@@ -1,7 +1,15 @@
--- The answer of closed and lost as a struct of numbers, for C: "every refusal gives back its number alone". Assumes
--- nothing.
+-- A gone peer by a flag and a number, and the answer as a struct of numbers, for C: "every refusal gives back its
+-- number alone". Assumes nothing.
+use Prim.Native.Nat.{ℕ}
+use mathlib.Core.Bool.{Bool, true, false}
+use Rattle.inflight.specs.declared.Peer as P
 use Rattle.inflight.specs.declared.DropAnswer as D
 use Rattle.drops_c.specs.declared.RelayDropped.{RelayDropped}
+
+-- "the side and its number": a publisher that was lost, or else a front link that closed
+abbrev pub peerOf : Bool → ℕ → P.Peer
+peerOf true p = P.the-variants.Publisher p
+peerOf false l = P.the-variants.Front l
 
 -- "the count is handed back"
 unfoldable pub dropFields : D.DropAnswer → RelayDropped

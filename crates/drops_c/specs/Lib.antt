@@ -1,2 +1,2 @@
--- Definitions of crate drops_c: the answer of closed and lost as a struct of numbers.
+-- Definitions of crate drops_c: a gone peer by a flag and a number, and the answer as a struct of numbers.
 pub mod DropFields

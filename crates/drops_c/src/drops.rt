@@ -1,10 +1,10 @@
-// The calls that free many requests: a closed link and a lost publisher. The other ends go into a lent slice, oldest
-// first.
+// The call that frees many requests: a peer is gone. The other ends go into a lent slice, oldest first.
 use crate::RelayDropped;
 use inflight::DropAnswer;
+use inflight::Peer;
 ghost use mathlib.Core.Path.{_≡_};
-ghost use Rattle.inflight.specs.Tables.{tableOf, closedOf, lostOf};
-ghost use Rattle.drops_c.specs.DropFields.{dropFields};
+ghost use Rattle.inflight.specs.Tables.{tableOf, goneOf};
+ghost use Rattle.drops_c.specs.DropFields.{peerOf, dropFields};
 
 // The answer as numbers.
 fn drop_fields(a: DropAnswer) -> RelayDropped
@@ -22,48 +22,38 @@ fn drop_fields(a: DropAnswer) -> RelayDropped
     }
 }
 
-// Link closed: frees all its requests and writes publisher and publisher number of each.
-#[no_mangle]
-pub extern "C" fn relay_closed_lent(
-    masks: &mut [u64; 9],
-    numbers: &[i64; 136],
-    places: &[u8; 128],
-    order: &mut [u8; 64],
-    link: u8,
-    out: &mut [i64],
-) -> RelayDropped
-    ensures { λ r. ⌜ (r ≡ dropFields (closedOf
-        (tableOf (now (masks .entry)) (now (numbers .entry)) (now (places .entry)) (now (order .entry))) link
-        (now (out .entry)) .answer))
-        × (tableOf (now (masks .exit)) (now (numbers .entry)) (now (places .entry)) (now (order .exit)) ≡ closedOf
-        (tableOf (now (masks .entry)) (now (numbers .entry)) (now (places .entry)) (now (order .entry))) link
-        (now (out .entry)) .table)
-        × (now (out .exit) ≡ closedOf (tableOf (now (masks .entry)) (now (numbers .entry)) (now (places .entry))
-        (now (order .entry))) link (now (out .entry)) .slice) ⌝ }
+// A side and its number: a publisher, or else a front link.
+fn peer_of(publisher: bool, number: u8) -> Peer
+    ensures { λ r. ⌜ r ≡ peerOf publisher number ⌝ }
 {
-    let a = inflight_drop::closed(masks, numbers, places, order, link, out);
-    drop_fields(a)
+    if publisher {
+        return Peer::Publisher(number);
+    }
+    Peer::Front(number)
 }
 
-// Publisher lost: frees all its requests and writes link and front number of each.
+// A peer is gone: frees all its requests and writes the other end of each, link and front number for a publisher that
+// was lost, publisher and publisher number for a front link that closed.
 #[no_mangle]
-pub extern "C" fn relay_lost_lent(
+pub extern "C" fn relay_gone_lent(
     masks: &mut [u64; 9],
     numbers: &[i64; 136],
     places: &[u8; 128],
     order: &mut [u8; 64],
-    publisher: u8,
+    publisher: bool,
+    number: u8,
     out: &mut [i64],
 ) -> RelayDropped
-    ensures { λ r. ⌜ (r ≡ dropFields (lostOf
-        (tableOf (now (masks .entry)) (now (numbers .entry)) (now (places .entry)) (now (order .entry))) publisher
-        (now (out .entry)) .answer))
-        × (tableOf (now (masks .exit)) (now (numbers .entry)) (now (places .entry)) (now (order .exit)) ≡ lostOf
-        (tableOf (now (masks .entry)) (now (numbers .entry)) (now (places .entry)) (now (order .entry))) publisher
-        (now (out .entry)) .table)
-        × (now (out .exit) ≡ lostOf (tableOf (now (masks .entry)) (now (numbers .entry)) (now (places .entry))
-        (now (order .entry))) publisher (now (out .entry)) .slice) ⌝ }
+    ensures { λ r. ⌜ (r ≡ dropFields (goneOf
+        (tableOf (now (masks .entry)) (now (numbers .entry)) (now (places .entry)) (now (order .entry)))
+        (peerOf publisher number) (now (out .entry)) .answer))
+        × (tableOf (now (masks .exit)) (now (numbers .entry)) (now (places .entry)) (now (order .exit)) ≡ goneOf
+        (tableOf (now (masks .entry)) (now (numbers .entry)) (now (places .entry)) (now (order .entry)))
+        (peerOf publisher number) (now (out .entry)) .table)
+        × (now (out .exit) ≡ goneOf (tableOf (now (masks .entry)) (now (numbers .entry)) (now (places .entry))
+        (now (order .entry))) (peerOf publisher number) (now (out .entry)) .slice) ⌝ }
 {
-    let a = inflight_drop::lost(masks, numbers, places, order, publisher, out);
+    let peer = peer_of(publisher, number);
+    let a = inflight_drop::gone(masks, numbers, places, order, peer, out);
     drop_fields(a)
 }

@@ -6,7 +6,7 @@ use native.Mathlib.Omega.{arith}
 use native.Mathlib.Numerals.{add-one}
 use mathlib.Core.Bool.{Bool, true, false}
 use mathlib.Core.List.{List, [], _∷_, _++_, append-assoc, append-nil, map}
-use lib.ListN.{take-append-drop, drop-of-length-le, replicate, length-replicate, length, take, drop, getD, set, length-append, length-drop, length-map}
+use lib.ListN.{take-append-drop, drop-of-length-le, replicate, length-replicate, length, take, drop, getD, set, length-append, length-map}
 use lib.Seq.{take-suc, drop-cons, set-at, getD-append-add, getD-drop, length-take-le}
 use Rattle.wire.specs.Choice.{pick}
 use lib.Bits.{bitAnd}
@@ -59,9 +59,6 @@ past os xs i j d l h =
     let q : i ≡ length os + (i - j) = omega arith in
     let r : j + (i - j) ≡ i = omega arith in
     ap (λ (n : ℕ). getD (os ++ drop j xs) n d) q ∙ getD-append-add os (drop j xs) (i - j) d ∙ getD-drop j xs (i - j) d ∙ ap (λ (n : ℕ). getD xs n d) r
-
-pub laid-length : {A : Type 0} (os xs : List A) (j : ℕ) → length os ≡ j → j ≤ length xs → length (os ++ drop j xs) ≡ length xs
-laid-length os xs j l h = length-append os (drop j xs) ∙ (let a = length-drop j xs in omega arith)
 
 pub map-append : {A B : Type 0} (f : A → B) (a b : List A) → map f (a ++ b) ≡ map f a ++ map f b
 map-append f [] b = refl

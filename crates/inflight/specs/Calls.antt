@@ -9,41 +9,38 @@ use Rattle.inflight.specs.Tables as T
 use Rattle.inflight.specs.declared.FrontNumber.{FrontNumber}
 use Rattle.inflight.specs.declared.PublisherNumber.{PublisherNumber}
 use Rattle.inflight.specs.Tables.{Table}
-use Rattle.inflight.specs.Requests.{Closed, Lost}
+use Rattle.inflight.specs.declared.Peer.{Peer}
 use Rattle.inflight.specs.declared.AskAnswer.{AskAnswer}
 use Rattle.inflight.specs.declared.ReplyAnswer.{ReplyAnswer}
 use Rattle.inflight.specs.declared.CancelAnswer.{CancelAnswer}
 use Rattle.inflight.specs.declared.DropAnswer.{DropAnswer}
 
--- a call with its arguments; closed and lost with the slice that they are lent
+-- a call with its arguments; gone, which stands for closed and lost, with the slice that it is lent
 pub data Call : Type 0 where
   ask : ℕ → FrontNumber → ℕ → Call
   reply : ℕ → PublisherNumber → Call
   cancel : ℕ → FrontNumber → Call
-  closed : ℕ → List ℤ → Call
-  lost : ℕ → List ℤ → Call
+  gone : Peer → List ℤ → Call
 
--- what a call hands back; of closed and lost also the whole slice afterwards
+-- what a call hands back; of gone also the whole slice afterwards
 pub data Heard : Type 0 where
   asked : AskAnswer → Heard
   replied : ReplyAnswer → Heard
   cancelled : CancelAnswer → Heard
   dropped : DropAnswer → List ℤ → Heard
 
--- the table: what the contracts of the five functions say
+-- the table: what the contracts of the four functions say
 abbrev pub tableHeard : Table → Call → Heard
 tableHeard t (ask l n p) = asked (T.askOf t l n p .answer)
 tableHeard t (reply p n) = replied (T.replyOf t p n .answer)
 tableHeard t (cancel l n) = cancelled (T.cancelOf t l n .answer)
-tableHeard t (closed l out) = dropped (T.closedOf t l out .answer) (T.closedOf t l out .slice)
-tableHeard t (lost p out) = dropped (T.lostOf t p out .answer) (T.lostOf t p out .slice)
+tableHeard t (gone peer out) = dropped (T.goneOf t peer out .answer) (T.goneOf t peer out .slice)
 
 abbrev pub tableAfter : Table → Call → Table
 tableAfter t (ask l n p) = T.askOf t l n p .table
 tableAfter t (reply p n) = T.replyOf t p n .table
 tableAfter t (cancel l n) = T.cancelOf t l n .table
-tableAfter t (closed l out) = T.closedOf t l out .table
-tableAfter t (lost p out) = T.lostOf t p out .table
+tableAfter t (gone peer out) = T.goneOf t peer out .table
 
 unfoldable pub tableRun : Table → List Call → List Heard
 tableRun t [] = []
@@ -59,15 +56,13 @@ abbrev pub modelHeard : Model → Call → Heard
 modelHeard m (ask l n p) = asked (M.askAnswer m l n p)
 modelHeard m (reply p n) = replied (M.replyAnswer m p n)
 modelHeard m (cancel l n) = cancelled (M.cancelAnswer m l n)
-modelHeard m (closed l out) = dropped (M.dropAnswer m (M.noLink l) (Closed l) out) (M.dropSlice m (M.noLink l) (Closed l) out)
-modelHeard m (lost p out) = dropped (M.dropAnswer m (M.noPublisher p) (Lost p) out) (M.dropSlice m (M.noPublisher p) (Lost p) out)
+modelHeard m (gone peer out) = dropped (M.goneAnswer m peer out) (M.goneSlice m peer out)
 
 abbrev pub modelAfter : Model → Call → Model
 modelAfter m (ask l n p) = M.ask m l n p
 modelAfter m (reply p n) = M.reply m p n
 modelAfter m (cancel l n) = M.cancel m l n
-modelAfter m (closed l out) = M.closed m l out
-modelAfter m (lost p out) = M.lost m p out
+modelAfter m (gone peer out) = M.gone m peer out
 
 unfoldable pub modelRun : Model → List Call → List Heard
 modelRun m [] = []

@@ -39,7 +39,7 @@ lowestFree used = trailingZeros 64 (18446744073709551615 - used)
 
 -- a mask without the slots of another
 abbrev pub cut : ℕ → ℕ → ℕ
-cut gone m = bitAnd m (18446744073709551615 - gone)
+cut mask m = bitAnd m (18446744073709551615 - mask)
 
 -- whether a mask has the slot that a byte names
 abbrev pub has : ℕ → ℕ → Bool

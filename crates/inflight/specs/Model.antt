@@ -14,7 +14,9 @@ use Rattle.inflight.specs.declared.FrontNumber.{FrontNumber}
 use Rattle.inflight.specs.declared.PublisherNumber.{PublisherNumber}
 use Rattle.inflight.specs.Requests.{Request}
 use Rattle.inflight.specs.Requests.{Key}
-use Rattle.inflight.specs.Requests.{Reply, Cancel, Closed, Lost}
+use Rattle.inflight.specs.Requests.{Reply, Cancel, keyOf}
+use Rattle.inflight.specs.declared.Peer.{Peer}
+use Rattle.inflight.specs.declared.Peer.the-variants as P
 use Rattle.inflight.specs.declared.AskAnswer.{AskAnswer}
 use Rattle.inflight.specs.declared.AskAnswer.the-variants as A
 use Rattle.inflight.specs.declared.ReplyAnswer.{ReplyAnswer}
@@ -40,6 +42,10 @@ noLink l = leb 32 l
 
 abbrev pub noPublisher : ℕ → Bool
 noPublisher p = leb 8 p
+
+abbrev pub noPeer : Peer → Bool
+noPeer (P.Front l) = noLink l
+noPeer (P.Publisher p) = noPublisher p
 
 -- whether a key matches no request
 abbrev pub none : Key → List Request → Bool
@@ -115,8 +121,8 @@ cancelAnswer m l n =
 abbrev pub cancel : Model → ℕ → FrontNumber → Model
 cancel m l n = taken m (noLink l) (n .0) (Cancel l n)
 
--- closed and lost: 30, 16, and 0 where they free their requests.
--- 30: link or publisher out of range. 16: "these two strike none if the slice has under two numbers for each"
+-- gone: 30, 16, and 0 where it frees its requests.
+-- 30: link or publisher out of range. 16: closed and lost "strike none if the slice has under two numbers for each"
 unfoldable pub dropRefusal : Model → Bool → Key → List ℤ → ℕ
 dropRefusal m range k out = first ((range, 30) ∷ (ltb (length out) (2 * length (matching k (m .requests))), 16) ∷ []) 0
 
@@ -134,9 +140,13 @@ dropSlice m range k out = pick (eqb (dropRefusal m range k out) 0) (overFront (o
 unfoldable pub dropped : Model → Bool → Key → List ℤ → Model
 dropped m range k out = pick (eqb (dropRefusal m range k out) 0) (remove m k) m
 
--- "closed all of its link, lost all of its publisher"
-abbrev pub closed : Model → ℕ → List ℤ → Model
-closed m l out = dropped m (noLink l) (Closed l) out
+-- "closed all of its link, lost all of its publisher": one call "that takes the side and its number" stands for both
+-- (document 02, A4)
+abbrev pub goneAnswer : Model → Peer → List ℤ → DropAnswer
+goneAnswer m peer out = dropAnswer m (noPeer peer) (keyOf peer) out
 
-abbrev pub lost : Model → ℕ → List ℤ → Model
-lost m p out = dropped m (noPublisher p) (Lost p) out
+abbrev pub goneSlice : Model → Peer → List ℤ → List ℤ
+goneSlice m peer out = dropSlice m (noPeer peer) (keyOf peer) out
+
+abbrev pub gone : Model → Peer → List ℤ → Model
+gone m peer out = dropped m (noPeer peer) (keyOf peer) out

@@ -3,6 +3,8 @@
 use Prim.Native.Nat.{ℕ}
 use Rattle.inflight.specs.declared.FrontNumber.{FrontNumber}
 use Rattle.inflight.specs.declared.PublisherNumber.{PublisherNumber}
+use Rattle.inflight.specs.declared.Peer.{Peer}
+use Rattle.inflight.specs.declared.Peer.the-variants as P
 
 -- a request in flight
 pub record Request : Type 0 where
@@ -17,3 +19,8 @@ pub data Key : Type 0 where
   Cancel : ℕ → FrontNumber → Key
   Closed : ℕ → Key
   Lost : ℕ → Key
+
+-- a gone peer names all requests of its link, or all of its publisher (document 02, A4)
+abbrev pub keyOf : Peer → Key
+keyOf (P.Front l) = Closed l
+keyOf (P.Publisher p) = Lost p

@@ -14,11 +14,13 @@ use lib.ListN.{length, take, getD, set, replicate}
 use Rattle.wire.specs.Choice.{pick, first}
 use Rattle.inflight.specs.Numbers.{same, after}
 use Rattle.inflight.specs.Matching.{sumBelow, overFront}
-use Rattle.inflight.specs.Model.{noLink, noPublisher}
+use Rattle.inflight.specs.Model.{noLink, noPublisher, noPeer}
 use Rattle.inflight.specs.Masks.{slots, seek, gather, lowestFree, cut, within, outside}
 use Rattle.inflight.specs.Masks.{laidOut, closedUp, placedAnew}
 use Rattle.inflight.specs.declared.FrontNumber.{FrontNumber}
 use Rattle.inflight.specs.declared.PublisherNumber.{PublisherNumber}
+use Rattle.inflight.specs.declared.Peer.{Peer}
+use Rattle.inflight.specs.declared.Peer.the-variants as P
 use Rattle.inflight.specs.declared.FreshAnswer.{FreshAnswer}
 use Rattle.inflight.specs.declared.FreshAnswer.the-variants as F
 use Rattle.inflight.specs.declared.AskAnswer.{AskAnswer}
@@ -168,7 +170,7 @@ askOf t l n p =
 
 -- all masks without the slots of one
 abbrev pub cutAll : ℕ → List ℕ → List ℕ
-cutAll gone ms = map (cut gone) ms
+cutAll mask ms = map (cut mask) ms
 
 -- a table without the request in one slot: only masks and order change
 unfoldable pub freed : Table → ℕ → Table
@@ -221,30 +223,35 @@ cancelOf t l n =
     ∷ [])
     (cancelAt t (seek (isFront (t .numbers) (t .places) l n) (slots (used t))))
 
--- ---- closed and lost
+-- ---- gone
 
--- the slots of a link
-abbrev pub linked : Table → ℕ → ℕ
-linked t l = gather (isLink (t .places) l) (slots (used t)) 0
+-- the slots of a peer: the used ones that have the link, or the publisher's mask
+abbrev pub slotsOf : List ℕ → List ℕ → Peer → ℕ
+slotsOf ms ps (P.Front l) = gather (isLink ps l) (slots (getD ms 0 0)) 0
+slotsOf ms ps (P.Publisher p) = getD ms (1 + p) 0
 
 -- those of a mask's slots that are used, oldest accepted first
 abbrev pub leaving : Table → ℕ → List ℕ
-leaving t gone = within gone (line t)
+leaving t mask = within mask (line t)
 
--- their other ends: place and number of each at an offset, 0 for link and front number, 64 for publisher and
--- publisher number
+-- where the other ends of a peer's requests stand: publishers and publisher numbers at 64, links and front numbers at 0
+abbrev pub otherAt : Peer → ℕ
+otherAt (P.Front l) = 64
+otherAt (P.Publisher p) = 0
+
+-- the other ends of some slots: place and number of each, at an offset
 unfoldable pub endsOf : List ℤ → List ℕ → ℕ → List ℕ → List ℤ
 endsOf ns ps base [] = []
 endsOf ns ps base (x ∷ xs) = pos (getD ps (base + x % 64) 0) ∷ getD ns (base + x % 64) (pos 0) ∷ endsOf ns ps base xs
 
 -- a table without the requests in the slots of a mask: only masks and order change
 unfoldable pub struck : Table → ℕ → Table
-struck t gone =
+struck t mask =
     record {
-      masks = cutAll gone (t .masks);
+      masks = cutAll mask (t .masks);
       numbers = t .numbers;
       places = t .places;
-      order = placedAnew (outside gone (line t)) 0 (t .order);
+      order = placedAnew (outside mask (line t)) 0 (t .order);
     }
 
 pub record Dropped : Type 0 where
@@ -254,21 +261,18 @@ pub record Dropped : Type 0 where
 
 -- the requests of a mask's slots are freed and their other ends written, if the slice has two numbers for each; else 16
 unfoldable pub dropOf : Table → ℕ → ℕ → List ℤ → Dropped
-dropOf t gone base out =
-    pick (ltb (length out) (2 * length (leaving t gone)))
+dropOf t mask base out =
+    pick (ltb (length out) (2 * length (leaving t mask)))
     (record { table = t; answer = D.Refused 16; slice = out })
     (record {
-      table = struck t gone;
-      answer = D.Count (length (leaving t gone));
-      slice = overFront (endsOf (t .numbers) (t .places) base (leaving t gone)) out;
+      table = struck t mask;
+      answer = D.Count (length (leaving t mask));
+      slice = overFront (endsOf (t .numbers) (t .places) base (leaving t mask)) out;
     })
 
--- "closed all of its link": the other ends are publishers and publisher numbers
-unfoldable pub closedOf : Table → ℕ → List ℤ → Dropped
-closedOf t l out =
-    pick (noLink l) (record { table = t; answer = D.Refused 30; slice = out }) (dropOf t (linked t l) 64 out)
-
--- "lost all of its publisher": the other ends are links and front numbers
-unfoldable pub lostOf : Table → ℕ → List ℤ → Dropped
-lostOf t p out =
-    pick (noPublisher p) (record { table = t; answer = D.Refused 30; slice = out }) (dropOf t (mine t p) 0 out)
+-- 30; else the requests in the peer's slots
+unfoldable pub goneOf : Table → Peer → List ℤ → Dropped
+goneOf t peer out =
+    pick (noPeer peer)
+    (record { table = t; answer = D.Refused 30; slice = out })
+    (dropOf t (slotsOf (t .masks) (t .places) peer) (otherAt peer) out)

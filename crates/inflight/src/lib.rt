@@ -9,10 +9,10 @@
 //     order   [u8; 64]    i the place of slot i in the order of acceptance, 0 the oldest
 //
 // Here are the types, the definitions and `fresh`, which starts a table. The calls stand above: `ask` in crate
-// `inflight_ask`, `reply` and `cancel` in `inflight_take`, `closed` and `lost` in `inflight_drop`, over masks and
-// searches (`inflight_slots`) and the freeing of slots (`inflight_free`). Every call is total: arrays that no call has
-// made, garbage included, get the answer that its definition gives (specs/Tables.antt). From a fresh table on, what the
-// calls do is document 01's book, specs/Model.antt, and nothing else (crate `inflight_claims`).
+// `inflight_ask`, `reply` and `cancel` in `inflight_take`, `gone` in `inflight_drop`, over masks and searches
+// (`inflight_slots`, `inflight_fronts`) and the freeing of slots (`inflight_free`). Every call is total: arrays that no
+// call has made, garbage included, get the answer that its definition gives (specs/Tables.antt). From a fresh table on,
+// what the calls do is document 01's book, specs/Model.antt, and nothing else (crate `inflight_claims`).
 mod numbers;
 mod start;
 
@@ -27,6 +27,12 @@ pub struct FrontNumber(pub i64);
 // A publisher number: it belongs to a publisher's link.
 #[repr(C)]
 pub struct PublisherNumber(pub i64);
+
+// Who is at the other end of a connection, by side and number: a front link or a publisher.
+pub enum Peer {
+    Front(u8),
+    Publisher(u8),
+}
 
 // An ask is accepted with a publisher number, or refused.
 pub enum AskAnswer {
@@ -46,7 +52,7 @@ pub enum CancelAnswer {
     Refused(u8),
 }
 
-// A closed link or a lost publisher: how many requests were freed, or a refusal.
+// Of a gone peer: how many requests were freed, or a refusal.
 pub enum DropAnswer {
     Count(usize),
     Refused(u8),

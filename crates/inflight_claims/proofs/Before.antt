@@ -12,9 +12,10 @@ use lib.Seq.{take-append-seam}
 use borrow.Author.Tests.{eqb-true, lt-leb}
 use Rattle.wire.specs.Choice.{pick}
 use Rattle.inflight.specs.Requests.{Request, Key, Reply, Cancel, Closed, Lost}
+use Rattle.inflight.specs.declared.Peer.the-variants as P
 use Rattle.inflight.specs.Model.{Model}
 use Rattle.inflight.specs.Model as M
-use Rattle.inflight.specs.Calls.{Call, Heard, ask, reply, cancel, closed, lost, modelHeard, modelAfter, modelRun}
+use Rattle.inflight.specs.Calls.{Call, Heard, ask, reply, cancel, gone, modelHeard, modelAfter, modelRun}
 use Rattle.inflight.specs.declared.FrontNumber.{FrontNumber}
 use Rattle.inflight.specs.declared.PublisherNumber.{PublisherNumber}
 use Rattle.inflight.specs.declared.FreshAnswer.{FreshAnswer}
@@ -93,8 +94,9 @@ same-call t (ask l n p) f =
     ask-same t l n p (λ e. bounded-space (inFlight t) p (f .bounded) (accepts (modelOf t) l n p e))
 same-call t (reply p n) f = record { answer = refl; table = taken-same t (M.noPublisher p) (n .0) (Reply p n) }
 same-call t (cancel l n) f = record { answer = refl; table = taken-same t (M.noLink l) (n .0) (Cancel l n) }
-same-call t (closed l out) f = record { answer = refl; table = dropped-same t (M.noLink l) (Closed l) out }
-same-call t (lost p out) f = record { answer = refl; table = dropped-same t (M.noPublisher p) (Lost p) out }
+same-call t (gone (P.Front l) out) f = record { answer = refl; table = dropped-same t (M.noLink l) (Closed l) out }
+same-call t (gone (P.Publisher p) out) f =
+    record { answer = refl; table = dropped-same t (M.noPublisher p) (Lost p) out }
 
 inv-after : (t : Table) (c : Call) → Invariant (modelOf t) → Invariant (modelOf (tableAfter t c))
 inv-after t c f = subst Invariant (sym (same-call t c f .table)) (inv-call (modelOf t) c f)

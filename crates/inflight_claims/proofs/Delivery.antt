@@ -25,14 +25,14 @@ use Rattle.inflight.specs.Requests.{Reply}
 use Rattle.inflight.specs.declared.AskAnswer.the-variants as A
 use Rattle.inflight.specs.declared.ReplyAnswer.the-variants as R
 use Rattle.inflight.proofs.NumberLaws.{same-true, eq-same, ne-same}
-use Rattle.inflight_claims.specs.Delivery.{Answers, tableAnswers, frees, freedSince, askFor, Carried, round, steps, passed, gone, request, Delivery, Delivered}
+use Rattle.inflight_claims.specs.Delivery.{Answers, tableAnswers, frees, freedSince, askFor, Carried, round, steps, passed, stepped, request, Delivery, Delivered}
 use Rattle.inflight_claims.proofs.Membership.{In, in-last, in-matching, matching-in, in-single, in-some, head-in}
 use Rattle.inflight_claims.proofs.History.{modelAnswers, at-snoc, stands, was-carried, or-false, shift}
 use Rattle.inflight_model.proofs.Capacity.{accepts}
 use Rattle.inflight_model.proofs.Invariant.{Ranged, inv-at, new-number, both}
 use Rattle.inflight_claims.proofs.ListClaim.{answer-accepted}
 use Rattle.inflight_tied.proofs.Simulated.{heard-at, fresh-good, fresh-model}
-use Rattle.inflight_claims.proofs.Numbering.{numbered-at, gone-more, gone-ask, right-round, steps-ranged, not-zero}
+use Rattle.inflight_claims.proofs.Numbering.{numbered-at, stepped-more, stepped-ask, right-round, steps-ranged, not-zero}
 
 -- ---- two places of a list
 
@@ -177,28 +177,28 @@ module _ (first : PublisherNumber) (ranged : Ranged first) where
 
   again-at : (b s : List Call) (l : ℕ) (f : FrontNumber) (k : ℕ) (g : FrontNumber) (p : ℕ) (x : PublisherNumber)
       → ans b (ask l f p) ≡ asked (A.Accepted x) → ans (b ++ ask l f p ∷ s) (ask k g p) ≡ asked (A.Accepted x)
-      → gone ans first p (b ++ ask l f p ∷ []) + round ≤ gone ans first p ((b ++ ask l f p ∷ s) ++ ask k g p ∷ [])
+      → stepped ans first p (b ++ ask l f p ∷ []) + round ≤ stepped ans first p ((b ++ ask l f p ∷ s) ++ ask k g p ∷ [])
   again-at b s l f k g p x h q =
       let B = b ++ ask l f p ∷ s in
       let r = ask-range b l f p x h in
-      let i : ℕ = passed ans first p b (gone ans first p b) + gone ans first p b in
-      let j : ℕ = passed ans first p B (gone ans first p B) + gone ans first p B in
+      let i : ℕ = passed ans first p b (stepped ans first p b) + stepped ans first p b in
+      let j : ℕ = passed ans first p B (stepped ans first p B) + stepped ans first p B in
       let e : steps i first ≡ steps j first = sym (numbered-at first ranged p r b l f x h) ∙ numbered-at first ranged p r B k g x q in
-      let u : gone ans first p (b ++ ask l f p ∷ []) ≡ suc i = gone-ask ans first p b l f x h in
-      let v : gone ans first p (B ++ ask k g p ∷ []) ≡ suc j = gone-ask ans first p B k g x q in
-      let w : gone ans first p (b ++ ask l f p ∷ []) ≤ gone ans first p B = subst (λ (z : List Call). gone ans first p (b ++ ask l f p ∷ []) ≤ gone ans first p z) (shift b (ask l f p) s) (gone-more ans first p (b ++ ask l f p ∷ []) s) in
+      let u : stepped ans first p (b ++ ask l f p ∷ []) ≡ suc i = stepped-ask ans first p b l f x h in
+      let v : stepped ans first p (B ++ ask k g p ∷ []) ≡ suc j = stepped-ask ans first p B k g x q in
+      let w : stepped ans first p (b ++ ask l f p ∷ []) ≤ stepped ans first p B = subst (λ (z : List Call). stepped ans first p (b ++ ask l f p ∷ []) ≤ stepped ans first p z) (shift b (ask l f p) s) (stepped-more ans first p (b ++ ask l f p ∷ []) s) in
       let z = right-round i j first ranged (omega arith) e in
       omega arith
 
   again-of : (cs : List Call) (e d : Request) (b s : List Call) → cs ≡ b ++ askFor e ∷ s → ans b (askFor e) ≡ asked (A.Accepted (e .number))
       → ans cs (askFor d) ≡ asked (A.Accepted (d .number)) → d .publisher ≡ e .publisher → d .number ≡ e .number
-      → gone ans first (e .publisher) (b ++ askFor e ∷ []) + round ≤ gone ans first (e .publisher) (cs ++ askFor d ∷ [])
+      → stepped ans first (e .publisher) (b ++ askFor e ∷ []) + round ≤ stepped ans first (e .publisher) (cs ++ askFor d ∷ [])
   again-of cs e d b s q h k pe ne =
       let g : ans (b ++ askFor e ∷ s) (ask (d .link) (d .front) (e .publisher)) ≡ asked (A.Accepted (e .number)) =
       sym (ap (λ (x : List Call). ans x (ask (d .link) (d .front) (e .publisher))) q) ∙ sym (ap (λ (p : ℕ). ans cs (ask (d .link) (d .front) p)) pe) ∙ k ∙ ap (λ (x : PublisherNumber). asked (A.Accepted x)) ne in
       let r = again-at b s (e .link) (e .front) (d .link) (d .front) (e .publisher) (e .number) h g in
-      let w : gone ans first (e .publisher) ((b ++ askFor e ∷ s) ++ ask (d .link) (d .front) (e .publisher) ∷ []) ≡ gone ans first (e .publisher) (cs ++ askFor d ∷ []) =
-      sym (ap (λ (x : List Call). gone ans first (e .publisher) (x ++ ask (d .link) (d .front) (e .publisher) ∷ [])) q) ∙ sym (ap (λ (p : ℕ). gone ans first (e .publisher) (cs ++ ask (d .link) (d .front) p ∷ [])) pe) in
+      let w : stepped ans first (e .publisher) ((b ++ askFor e ∷ s) ++ ask (d .link) (d .front) (e .publisher) ∷ []) ≡ stepped ans first (e .publisher) (cs ++ askFor d ∷ []) =
+      sym (ap (λ (x : List Call). stepped ans first (e .publisher) (x ++ ask (d .link) (d .front) (e .publisher) ∷ [])) q) ∙ sym (ap (λ (p : ℕ). stepped ans first (e .publisher) (cs ++ ask (d .link) (d .front) p ∷ [])) pe) in
       omega arith
 
   one-of : (cs : List Call) (e d : Request) → e .publisher ≡ d .publisher → e .number ≡ d .number → (c : Carried ans cs e) (b : Carried ans cs d)
@@ -211,7 +211,7 @@ module _ (first : PublisherNumber) (ranged : Ranged first) where
 
   only-of : (cs : List Call) (e : Request) (c : Carried ans cs e) (d : Request) (b s : List Call) → cs ≡ b ++ askFor d ∷ s
       → ans b (askFor d) ≡ asked (A.Accepted (d .number)) → d .publisher ≡ e .publisher → d .number ≡ e .number
-      → gone ans first (e .publisher) cs < gone ans first (e .publisher) (b ++ askFor d ∷ []) + round → b ≡ c .before
+      → stepped ans first (e .publisher) cs < stepped ans first (e .publisher) (b ++ askFor d ∷ []) + round → b ≡ c .before
   only-of cs e c d b s q h pe ne w =
       ⊎-elim
       (λ k. sym k)
@@ -221,9 +221,9 @@ module _ (first : PublisherNumber) (ranged : Ranged first) where
       early : Behind b (askFor d) s (c .before) (askFor e) (c .since) → ⊥
       early j =
           let l = again-of (c .before) d e b (j .mid) (j .place) h (c .accepted) (sym pe) (sym ne) in
-          let l2 : gone ans first (e .publisher) (b ++ askFor d ∷ []) + round ≤ gone ans first (e .publisher) (c .before ++ askFor e ∷ []) = subst (λ (p : ℕ). gone ans first p (b ++ askFor d ∷ []) + round ≤ gone ans first p (c .before ++ askFor e ∷ [])) pe l in
-          let g : gone ans first (e .publisher) (c .before ++ askFor e ∷ []) ≤ gone ans first (e .publisher) cs =
-          subst (λ (x : List Call). gone ans first (e .publisher) (c .before ++ askFor e ∷ []) ≤ gone ans first (e .publisher) x) (shift (c .before) (askFor e) (c .since) ∙ sym (c .place)) (gone-more ans first (e .publisher) (c .before ++ askFor e ∷ []) (c .since)) in
+          let l2 : stepped ans first (e .publisher) (b ++ askFor d ∷ []) + round ≤ stepped ans first (e .publisher) (c .before ++ askFor e ∷ []) = subst (λ (p : ℕ). stepped ans first p (b ++ askFor d ∷ []) + round ≤ stepped ans first p (c .before ++ askFor e ∷ [])) pe l in
+          let g : stepped ans first (e .publisher) (c .before ++ askFor e ∷ []) ≤ stepped ans first (e .publisher) cs =
+          subst (λ (x : List Call). stepped ans first (e .publisher) (c .before ++ askFor e ∷ []) ≤ stepped ans first (e .publisher) x) (shift (c .before) (askFor e) (c .since) ∙ sym (c .place)) (stepped-more ans first (e .publisher) (c .before ++ askFor e ∷ []) (c .since)) in
           omega arith
 
   delivered-of : (cs : List Call) (l : ℕ) (f : FrontNumber) (p : ℕ) (x : PublisherNumber) → ans cs (reply p x) ≡ replied (R.Front l f)
@@ -243,7 +243,7 @@ module _ (first : PublisherNumber) (ranged : Ranged first) where
       let m = at cs in
       let e : Request = request l f p x in
       let r = ask-range (c .before) l f p x (c .accepted) in
-      let g : Ranged x = subst Ranged (sym (numbered-at first ranged p r (c .before) l f x (c .accepted))) (steps-ranged (passed ans first p (c .before) (gone ans first p (c .before)) + gone ans first p (c .before)) first ranged) in
+      let g : Ranged x = subst Ranged (sym (numbered-at first ranged p r (c .before) l f x (c .accepted))) (steps-ranged (passed ans first p (c .before) (stepped ans first p (c .before)) + stepped ans first p (c .before)) first ranged) in
       let i = in-matching (Reply p x) e (m .requests) (carried-in cs e c) (matches-own e p x refl refl) in
       let s : matched m (Reply p x) ≡ e = in-single e (matching (Reply p x) (m .requests)) blank i (inv-at first ranged cs .once p x) in
       let z = take-zero m p x (lt-leb 8 p r) (not-zero x g) (ne-eqb (length (matching (Reply p x) (m .requests))) 0 (in-some e (matching (Reply p x) (m .requests)) i)) in
@@ -280,13 +280,13 @@ module _ (first : PublisherNumber) (ranged : Ranged first) where
 
   overdue-of : (cs : List Call) (e : Request) (b s : List Call) → cs ≡ b ++ askFor e ∷ s → ans b (askFor e) ≡ asked (A.Accepted (e .number))
       → freedSince ans e (b ++ askFor e ∷ []) s ≡ true
-      → gone ans first (e .publisher) cs < gone ans first (e .publisher) (b ++ askFor e ∷ []) + round
+      → stepped ans first (e .publisher) cs < stepped ans first (e .publisher) (b ++ askFor e ∷ []) + round
       → ans cs (reply (e .publisher) (e .number)) ≡ replied (R.Refused 34)
   overdue-of cs e b s q h t w =
       let p = e .publisher in
       let x = e .number in
       let r = ask-range b (e .link) (e .front) p x h in
-      let g : Ranged x = subst Ranged (sym (numbered-at first ranged p r b (e .link) (e .front) x h)) (steps-ranged (passed ans first p b (gone ans first p b) + gone ans first p b) first ranged) in
+      let g : Ranged x = subst Ranged (sym (numbered-at first ranged p r b (e .link) (e .front) x h)) (steps-ranged (passed ans first p b (stepped ans first p b) + stepped ans first p b) first ranged) in
       nowhere-of cs p x r (λ z. false≢true (sym (not-zero x g) ∙ eq-same (x .0) (pos 0) z)) (λ l f c. none l f c)
     where
       none : (l : ℕ) (f : FrontNumber) → Carried ans cs (request l f (e .publisher) (e .number)) → ⊥

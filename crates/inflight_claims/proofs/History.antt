@@ -12,12 +12,13 @@ use Rattle.wire.specs.Choice.{pick}
 use Rattle.inflight.specs.Matching.{matches}
 use Rattle.inflight.specs.Model.{Model, askRefusal, takeRefusal, dropRefusal, entry}
 use Rattle.inflight.specs.Model as M
-use Rattle.inflight.specs.Calls.{Call, ask, reply, cancel, closed, lost, asked, replied, cancelled, dropped, modelHeard, modelAfter, modelAt}
+use Rattle.inflight.specs.Calls.{Call, ask, reply, cancel, gone, asked, replied, cancelled, dropped}
+use Rattle.inflight.specs.Calls.{modelHeard, modelAfter, modelAt}
 use Rattle.inflight.specs.declared.FrontNumber.{FrontNumber}
 use Rattle.inflight.specs.declared.PublisherNumber.{PublisherNumber}
 use Rattle.inflight.specs.Requests.{Request}
 use Rattle.inflight.specs.Requests.{Key}
-use Rattle.inflight.specs.Requests.{Reply, Cancel, Closed, Lost}
+use Rattle.inflight.specs.Requests.{Reply, Cancel, keyOf}
 use Rattle.inflight.specs.declared.AskAnswer.the-variants as A
 use Rattle.inflight.specs.declared.ReplyAnswer.the-variants as R
 use Rattle.inflight.specs.declared.CancelAnswer.the-variants as C
@@ -62,7 +63,7 @@ module _ (y : Bool) (n : ℕ) where
       go true = refl
       go false = refl
 
--- reply, cancel, closed and lost, over the key: y says that the call is not refused, r that it is
+-- reply, cancel and gone, over the key: y says that the call is not refused, r that it is
 module _ (m : Model) (k : Key) (e : Request) where
   keep-pick : (y r : Bool) → r ≡ not y → In e (m .requests) → not r && matches k e ≡ false → In e (pick y (M.remove m k) m .requests)
   keep-pick true true q i f = absurd (false≢true (sym q))
@@ -105,8 +106,9 @@ unfolding frees M.taken M.dropped M.replyAnswer M.cancelAnswer M.dropAnswer
 keep m (ask l n p) e i f = keep-ask m l n p e i
 keep m (reply p n) e i f = keep-pick m (Reply p n) e (eqb (takeRefusal m (M.noPublisher p) (n .0) (Reply p n)) 0) _ (reply-refused (eqb (takeRefusal m (M.noPublisher p) (n .0) (Reply p n)) 0) _ _ _) i f
 keep m (cancel l n) e i f = keep-pick m (Cancel l n) e (eqb (takeRefusal m (M.noLink l) (n .0) (Cancel l n)) 0) _ (cancel-refused (eqb (takeRefusal m (M.noLink l) (n .0) (Cancel l n)) 0) _ _ _) i f
-keep m (closed l out) e i f = keep-pick m (Closed l) e (eqb (dropRefusal m (M.noLink l) (Closed l) out) 0) _ (drop-refused (eqb (dropRefusal m (M.noLink l) (Closed l) out) 0) _ _ out) i f
-keep m (lost p out) e i f = keep-pick m (Lost p) e (eqb (dropRefusal m (M.noPublisher p) (Lost p) out) 0) _ (drop-refused (eqb (dropRefusal m (M.noPublisher p) (Lost p) out) 0) _ _ out) i f
+keep m (gone peer out) e i f =
+    let y : Bool = eqb (dropRefusal m (M.noPeer peer) (keyOf peer) out) 0 in
+    keep-pick m (keyOf peer) e y _ (drop-refused y _ _ out) i f
 
 came : (m : Model) (c : Call) (e : Request) → In e (modelAfter m c .requests)
     → (In e (m .requests) × (frees e c (modelHeard m c) ≡ false)) ⊎ Gives m c e
@@ -114,8 +116,9 @@ unfolding frees M.taken M.dropped M.replyAnswer M.cancelAnswer M.dropAnswer
 came m (ask l n p) e i = ⊎-elim (λ j. inl (j, refl)) (λ g. inr g) (came-ask m l n p e i)
 came m (reply p n) e i = inl (came-pick m (Reply p n) e (eqb (takeRefusal m (M.noPublisher p) (n .0) (Reply p n)) 0) _ (reply-refused (eqb (takeRefusal m (M.noPublisher p) (n .0) (Reply p n)) 0) _ _ _) i)
 came m (cancel l n) e i = inl (came-pick m (Cancel l n) e (eqb (takeRefusal m (M.noLink l) (n .0) (Cancel l n)) 0) _ (cancel-refused (eqb (takeRefusal m (M.noLink l) (n .0) (Cancel l n)) 0) _ _ _) i)
-came m (closed l out) e i = inl (came-pick m (Closed l) e (eqb (dropRefusal m (M.noLink l) (Closed l) out) 0) _ (drop-refused (eqb (dropRefusal m (M.noLink l) (Closed l) out) 0) _ _ out) i)
-came m (lost p out) e i = inl (came-pick m (Lost p) e (eqb (dropRefusal m (M.noPublisher p) (Lost p) out) 0) _ (drop-refused (eqb (dropRefusal m (M.noPublisher p) (Lost p) out) 0) _ _ out) i)
+came m (gone peer out) e i =
+    let y : Bool = eqb (dropRefusal m (M.noPeer peer) (keyOf peer) out) 0 in
+    inl (came-pick m (keyOf peer) e y _ (drop-refused y _ _ out) i)
 
 -- ---- the list
 

@@ -6,4 +6,5 @@ pub mod History
 pub mod Numbering
 pub mod Delivery
 pub mod Before
+pub mod TwoCalls
 pub mod Slots

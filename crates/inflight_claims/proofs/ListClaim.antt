@@ -53,7 +53,7 @@ pub capacity : (m : Model) (l : ℕ) (n : FrontNumber) (p : ℕ) → Valid m l n
 capacity m l n p v =
     record {
       under = λ h. answer-yes m l n p (ask-under applies h);
-      gone = λ h k t. answer-no m l n p 33 (ask-gone applies h (omega arith) t) (λ q. omega arith);
+      taken = λ h k t. answer-no m l n p 33 (ask-gone applies h (omega arith) t) (λ q. omega arith);
       only = λ h k a. only h k (eqb (capacityTaken (m .requests)) 64) refl a;
       left = left;
       full = λ h. answer-no m l n p 32 (ask-full applies (omega arith)) (λ q. omega arith);

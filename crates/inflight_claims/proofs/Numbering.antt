@@ -17,15 +17,15 @@ use Rattle.inflight.specs.Numbers.{after, same}
 use Rattle.inflight.specs.Matching.{matching, nextFree}
 use Rattle.inflight.specs.Model.{Model, askRefusal, takeRefusal, dropRefusal, given}
 use Rattle.inflight.specs.Model as M
-use Rattle.inflight.specs.Calls.{Call, ask, reply, cancel, closed, lost, asked, replied, modelAfter, modelAt}
+use Rattle.inflight.specs.Calls.{Call, ask, reply, cancel, gone, asked, replied, modelAfter, modelAt}
 use Rattle.inflight.specs.declared.FrontNumber.{FrontNumber}
 use Rattle.inflight.specs.declared.PublisherNumber.{PublisherNumber}
 use Rattle.inflight.specs.Requests.{Request}
-use Rattle.inflight.specs.Requests.{Reply, Cancel, Closed, Lost}
+use Rattle.inflight.specs.Requests.{Reply, Cancel, keyOf}
 use Rattle.inflight.specs.declared.AskAnswer.the-variants as A
 use Rattle.inflight.specs.declared.ReplyAnswer.the-variants as R
 use Rattle.inflight.proofs.NumberLaws.{ne-same}
-use Rattle.inflight_claims.specs.Delivery.{Answers, refused, steps, inRow, passed, moved, goneFrom, gone}
+use Rattle.inflight_claims.specs.Delivery.{Answers, refused, steps, inRow, passed, moved, steppedFrom, stepped}
 use Rattle.inflight_model.proofs.Flight.{top, wrap, after-wrap, wrap-apart, wrap-zero}
 use Rattle.inflight_model.proofs.Capacity.{accepts, bounded-space}
 use Rattle.inflight_model.proofs.Invariant.{Ranged, inv-at, after-ranged, new-number}
@@ -178,28 +178,28 @@ module _ (first : PublisherNumber) (ranged : Ranged first) (p : ℕ) (range : p 
   next-step b s (ask l f q) e = next-ask b s l f q e
   next-step b s (reply q x) e = keeps (at b) (eqb (takeRefusal (at b) (M.noPublisher q) (x .0) (Reply q x)) 0) (M.remove (at b) (Reply q x)) refl ∙ e
   next-step b s (cancel l f) e = keeps (at b) (eqb (takeRefusal (at b) (M.noLink l) (f .0) (Cancel l f)) 0) (M.remove (at b) (Cancel l f)) refl ∙ e
-  next-step b s (closed l out) e = keeps (at b) (eqb (dropRefusal (at b) (M.noLink l) (Closed l) out) 0) (M.remove (at b) (Closed l)) refl ∙ e
-  next-step b s (lost q out) e = keeps (at b) (eqb (dropRefusal (at b) (M.noPublisher q) (Lost q) out) 0) (M.remove (at b) (Lost q)) refl ∙ e
+  next-step b s (gone peer out) e =
+      keeps (at b) (eqb (dropRefusal (at b) (M.noPeer peer) (keyOf peer) out) 0) (M.remove (at b) (keyOf peer)) refl ∙ e
 
   next-from : (cs b : List Call) (s : ℕ) → next (at b) ≡ steps s first
-      → next (at (b ++ cs)) ≡ steps (goneFrom (modelAnswers first) first p b s cs) first
-  unfolding goneFrom
+      → next (at (b ++ cs)) ≡ steps (steppedFrom (modelAnswers first) first p b s cs) first
+  unfolding steppedFrom
   next-from [] b s e = rw (append-nil b) e
   next-from (c ∷ cs) b s e =
       let k : next (at (b ++ c ∷ [])) ≡ steps (moved (modelAnswers first) first p b s c) first = rw (at-snoc b c (M.empty first)) (next-step b s c e) in
       ap (λ (x : List Call). next (at x)) (sym (append-assoc b (c ∷ []) cs)) ∙ next-from cs (b ++ c ∷ []) (moved (modelAnswers first) first p b s c) k
 
   -- after every list of calls the next number stands as many steps from the first as the numbering has gone
-  pub next-gone : (cs : List Call) → next (at cs) ≡ steps (gone (modelAnswers first) first p cs) first
+  pub next-stepped : (cs : List Call) → next (at cs) ≡ steps (stepped (modelAnswers first) first p cs) first
   unfolding M.empty modelAt steps
-  next-gone cs = next-from cs [] 0 (getD-replicate 8 p first (record { 0 = pos 0 }) range)
+  next-stepped cs = next-from cs [] 0 (getD-replicate 8 p first (record { 0 = pos 0 }) range)
 
   pub numbered-at : (cs : List Call) (l : ℕ) (f : FrontNumber) (x : PublisherNumber) → modelAnswers first cs (ask l f p) ≡ asked (A.Accepted x)
-      → x ≡ steps (passed (modelAnswers first) first p cs (gone (modelAnswers first) first p cs) + gone (modelAnswers first) first p cs) first
+      → x ≡ steps (passed (modelAnswers first) first p cs (stepped (modelAnswers first) first p cs) + stepped (modelAnswers first) first p cs) first
   numbered-at cs l f x h =
       let a : M.askAnswer (at cs) l f p ≡ A.Accepted x = cc in
       let k = answer-accepted (at cs) l f p x a in
-      sym (k .1) ∙ given-at cs l f (gone (modelAnswers first) first p cs) (k .0) (next-gone cs)
+      sym (k .1) ∙ given-at cs l f (stepped (modelAnswers first) first p cs) (k .0) (next-stepped cs)
 
 -- ---- how far a numbering has gone, of any answers
 
@@ -213,25 +213,24 @@ module _ (ans : Answers) (first : PublisherNumber) (p : ℕ) where
       go false = omega arith
   moved-up b s (reply q x) = omega arith
   moved-up b s (cancel l f) = omega arith
-  moved-up b s (closed l out) = omega arith
-  moved-up b s (lost q out) = omega arith
+  moved-up b s (gone peer out) = omega arith
 
-  gone-up : (cs b : List Call) (s : ℕ) → s ≤ goneFrom ans first p b s cs
-  unfolding goneFrom
-  gone-up [] b s = omega arith
-  gone-up (c ∷ cs) b s = let i = moved-up b s c in let j = gone-up cs (b ++ c ∷ []) (moved ans first p b s c) in omega arith
+  stepped-up : (cs b : List Call) (s : ℕ) → s ≤ steppedFrom ans first p b s cs
+  unfolding steppedFrom
+  stepped-up [] b s = omega arith
+  stepped-up (c ∷ cs) b s = let i = moved-up b s c in let j = stepped-up cs (b ++ c ∷ []) (moved ans first p b s c) in omega arith
 
-  gone-append : (x y b : List Call) (s : ℕ) → goneFrom ans first p b s (x ++ y) ≡ goneFrom ans first p (b ++ x) (goneFrom ans first p b s x) y
-  unfolding goneFrom
-  gone-append [] y b s = ap (λ (z : List Call). goneFrom ans first p z s y) (sym (append-nil b))
-  gone-append (c ∷ x) y b s =
-      gone-append x y (b ++ c ∷ []) (moved ans first p b s c) ∙ ap (λ (z : List Call). goneFrom ans first p z (goneFrom ans first p (b ++ c ∷ []) (moved ans first p b s c) x) y) (append-assoc b (c ∷ []) x)
+  stepped-append : (x y b : List Call) (s : ℕ) → steppedFrom ans first p b s (x ++ y) ≡ steppedFrom ans first p (b ++ x) (steppedFrom ans first p b s x) y
+  unfolding steppedFrom
+  stepped-append [] y b s = ap (λ (z : List Call). steppedFrom ans first p z s y) (sym (append-nil b))
+  stepped-append (c ∷ x) y b s =
+      stepped-append x y (b ++ c ∷ []) (moved ans first p b s c) ∙ ap (λ (z : List Call). steppedFrom ans first p z (steppedFrom ans first p (b ++ c ∷ []) (moved ans first p b s c) x) y) (append-assoc b (c ∷ []) x)
 
-  pub gone-more : (x y : List Call) → gone ans first p x ≤ gone ans first p (x ++ y)
-  gone-more x y = let e = gone-append x y [] 0 in let i = gone-up y x (gone ans first p x) in omega arith
+  pub stepped-more : (x y : List Call) → stepped ans first p x ≤ stepped ans first p (x ++ y)
+  stepped-more x y = let e = stepped-append x y [] 0 in let i = stepped-up y x (stepped ans first p x) in omega arith
 
   -- an accepted ask goes one step, and one for each number passed over
-  pub gone-ask : (cs : List Call) (l : ℕ) (f : FrontNumber) (x : PublisherNumber) → ans cs (ask l f p) ≡ asked (A.Accepted x)
-      → gone ans first p (cs ++ ask l f p ∷ []) ≡ suc (passed ans first p cs (gone ans first p cs) + gone ans first p cs)
-  unfolding goneFrom moved
-  gone-ask cs l f x h = gone-append cs (ask l f p ∷ []) [] 0 ∙ rw (eq-eqb p p refl, h)
+  pub stepped-ask : (cs : List Call) (l : ℕ) (f : FrontNumber) (x : PublisherNumber) → ans cs (ask l f p) ≡ asked (A.Accepted x)
+      → stepped ans first p (cs ++ ask l f p ∷ []) ≡ suc (passed ans first p cs (stepped ans first p cs) + stepped ans first p cs)
+  unfolding steppedFrom moved
+  stepped-ask cs l f x h = stepped-append cs (ask l f p ∷ []) [] 0 ∙ rw (eq-eqb p p refl, h)

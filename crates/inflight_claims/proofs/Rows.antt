@@ -8,17 +8,19 @@ use lib.Dec.{leb}
 use lib.IntN.{ℤ, pos}
 use lib.ListN.{length}
 use borrow.Author.Tests.{eq-eqb, ne-eqb, le-leb, lt-leb, le-ltb, lt-ltb}
-use Rattle.inflight.specs.Requests.{Key, Reply, Cancel}
+use Rattle.inflight.specs.Requests.{keyOf}
 use Rattle.inflight.specs.Matching.{matching}
 use Rattle.inflight.specs.Model.{Model, askRefusal, askAnswer, takeRefusal, replyAnswer, cancelAnswer, dropRefusal}
-use Rattle.inflight.specs.Model.{dropAnswer}
+use Rattle.inflight.specs.Model.{dropAnswer, noPeer}
 use Rattle.inflight.specs.declared.FrontNumber.{FrontNumber}
 use Rattle.inflight.specs.declared.PublisherNumber.{PublisherNumber}
+use Rattle.inflight.specs.declared.Peer.{Peer}
+use Rattle.inflight.specs.declared.Peer.the-variants as P
 use Rattle.inflight.specs.declared.AskAnswer.the-variants as A
 use Rattle.inflight.proofs.NumberLaws.{eq-same, ne-same}
 use Rattle.inflight.proofs.AskLaws.{ask-own}
 use Rattle.inflight_claims.proofs.ListClaim.{capacity}
-use Rattle.inflight_claims.specs.Rows.{AskRows, ReplyRows, CancelRows, DropRows, Rows}
+use Rattle.inflight_claims.specs.Rows.{AskRows, ReplyRows, CancelRows, GoneRows, Rows}
 
 ask-rows : (m : Model) (l : ℕ) (n : FrontNumber) (p : ℕ) → AskRows m l n p
 unfolding askAnswer askRefusal
@@ -55,13 +57,15 @@ cancel-rows m l n =
       one = λ h e d. rw (lt-leb 32 l h, ne-same (n .0) (pos 0) e, ne-eqb _ 0 d);
     }
 
-drop-rows : (m : Model) (limit x : ℕ) (k : Key) (out : List ℤ) → DropRows m limit x k out
+gone-rows : (m : Model) (peer : Peer) (limit x : ℕ) (out : List ℤ) → noPeer peer ≡ leb limit x
+    → GoneRows m peer limit x out
 unfolding dropAnswer dropRefusal
-drop-rows m limit x k out =
+gone-rows m peer limit x out q =
+    let need : ℕ = 2 * length (matching (keyOf peer) (m .requests)) in
     record {
-      range = λ h. rw (le-leb limit x h);
-      short = λ h l. rw (lt-leb limit x h, lt-ltb (length out) (2 * length (matching k (m .requests))) l);
-      all = λ h l. rw (lt-leb limit x h, le-ltb (length out) (2 * length (matching k (m .requests))) l);
+      range = λ h. rw (q, le-leb limit x h);
+      short = λ h l. rw (q, lt-leb limit x h, lt-ltb (length out) need l);
+      all = λ h l. rw (q, lt-leb limit x h, le-ltb (length out) need l);
     }
 
 pub rows : (m : Model) → Rows m
@@ -70,6 +74,6 @@ rows m =
       ask = ask-rows m;
       reply = reply-rows m;
       cancel = cancel-rows m;
-      closed = λ l out. drop-rows m 32 l _ out;
-      lost = λ p out. drop-rows m 8 p _ out;
+      front = λ l out. gone-rows m (P.Front l) 32 l out refl;
+      publisher = λ p out. gone-rows m (P.Publisher p) 8 p out refl;
     }

@@ -16,12 +16,12 @@ use Rattle.wire.proofs.ChoiceLaws.{by-row}
 use Rattle.inflight.specs.Numbers.{same}
 use Rattle.inflight.specs.Matching.{load}
 use Rattle.inflight.specs.Masks.{bitAt, seek, slots, lowestFree}
-use Rattle.inflight.specs.Model.{Model, empty, noLink, noPublisher}
+use Rattle.inflight.specs.Model.{Model, empty, noLink, noPublisher, noPeer}
 use Rattle.inflight.specs.Requests.{Request}
-use Rattle.inflight.specs.Tables.{Table, Sized, tableOf, used, mine, placed, givenOf, struck, freed, linked, leaving}
-use Rattle.inflight.specs.Tables.{isNumber, isFront, askRefusalOf, freshOf, askOf, replyOf, cancelOf, dropOf, closedOf}
-use Rattle.inflight.specs.Tables.{Asked, Replied, Cancelled, Dropped, lostOf}
-use Rattle.inflight.specs.Calls.{Call, ask, reply, cancel, closed, lost, tableAt, modelAt}
+use Rattle.inflight.specs.Tables.{Table, Sized, tableOf, used, mine, placed, givenOf, struck, freed, slotsOf, leaving}
+use Rattle.inflight.specs.Tables.{isNumber, isFront, askRefusalOf, freshOf, askOf, replyOf, cancelOf, otherAt, dropOf}
+use Rattle.inflight.specs.Tables.{Asked, Replied, Cancelled, Dropped, goneOf}
+use Rattle.inflight.specs.Calls.{Call, ask, reply, cancel, gone, tableAt, modelAt}
 use Rattle.inflight.specs.declared.FrontNumber.{FrontNumber}
 use Rattle.inflight.specs.declared.PublisherNumber.{PublisherNumber}
 use Rattle.inflight.specs.declared.FreshAnswer.the-variants as F
@@ -119,7 +119,7 @@ module _ (t : Table) (i : ℕ) where
       (λ e. stay)
 
 pub never-moves : NeverMoves
-unfolding askOf replyOf cancelOf closedOf lostOf freed
+unfolding askOf replyOf cancelOf goneOf freed
 never-moves t (ask l n p) i h b =
     let kept : (Asked → Type 0) = λ a. Unmoved t (a .table) i in
     let s : ℕ = lowestFree (used t) in
@@ -139,9 +139,6 @@ never-moves t (cancel l n) i h b =
     (λ e. by-row kept (same (n .0) (pos 0)) _ _ (λ d. stay t i)
     (λ d. by-row kept (leb 64 (seek (isFront (t .numbers) (t .places) l n) (slots (used t)))) _ _ (λ q. stay t i)
     (λ q. stay t i)))
-never-moves t (closed l out) i h b =
-    by-row (λ (a : Dropped). Unmoved t (a .table) i) (noLink l) _ _ (λ e. stay t i)
-    (λ e. drop-stay t i (linked t l) 64 out)
-never-moves t (lost p out) i h b =
-    by-row (λ (a : Dropped). Unmoved t (a .table) i) (noPublisher p) _ _ (λ e. stay t i)
-    (λ e. drop-stay t i (mine t p) 0 out)
+never-moves t (gone peer out) i h b =
+    by-row (λ (a : Dropped). Unmoved t (a .table) i) (noPeer peer) _ _ (λ e. stay t i)
+    (λ e. drop-stay t i (slotsOf (t .masks) (t .places) peer) (otherAt peer) out)

@@ -1,6 +1,7 @@
 -- The table as it was before it was kept in fixed slots by masks: its requests stood oldest first in one array, with a
 -- count, and a call took it and handed it back by value. These are the definitions that its calls were proved to meet,
--- word for word; `AsBefore` says that the table answers, and leaves the lent slice, as that one did.
+-- word for word, where closed and lost were two calls: one call stands for both now. `AsBefore` says that the table
+-- answers, and leaves the lent slice, as that one did.
 -- Assumes nothing.
 use mathlib.Core.Path.{_≡_}
 use Prim.Native.Nat.{ℕ}
@@ -17,11 +18,12 @@ use Rattle.inflight.specs.Requests.{Request, Key, Reply, Cancel, Closed, Lost}
 use Rattle.inflight.specs.Matching.{blank}
 use Rattle.inflight.specs.Model.{Model}
 use Rattle.inflight.specs.Model as M
-use Rattle.inflight.specs.Calls.{Call, Heard, ask, reply, cancel, closed, lost, asked, replied, cancelled, dropped}
+use Rattle.inflight.specs.Calls.{Call, Heard, ask, reply, cancel, gone, asked, replied, cancelled, dropped}
 use Rattle.inflight.specs.Tables as T
 use Rattle.inflight.specs.Calls as K
 use Rattle.inflight.specs.declared.FrontNumber.{FrontNumber}
 use Rattle.inflight.specs.declared.PublisherNumber.{PublisherNumber}
+use Rattle.inflight.specs.declared.Peer.the-variants as P
 use Rattle.inflight.specs.declared.FreshAnswer.{FreshAnswer}
 use Rattle.inflight.specs.declared.FreshAnswer.the-variants as F
 use Rattle.inflight.specs.declared.AskAnswer.{AskAnswer}
@@ -123,20 +125,21 @@ lostOf t p out = dropOf t (M.noPublisher p) (Lost p) out
 unfoldable pub lostSliceOf : Table → ℕ → List ℤ → List ℤ
 lostSliceOf t p out = dropSliceOf t (M.noPublisher p) (Lost p) out
 
--- the table: what the contracts of the five functions say
+-- the table: what the contracts of its five functions said, with closed and lost as a link that is gone and a publisher
+-- that is
 abbrev pub tableHeard : Table → Call → Heard
 tableHeard t (ask l n p) = asked (askOf t l n p .answer)
 tableHeard t (reply p n) = replied (replyOf t p n .answer)
 tableHeard t (cancel l n) = cancelled (cancelOf t l n .answer)
-tableHeard t (closed l out) = dropped (closedOf t l out .answer) (closedSliceOf t l out)
-tableHeard t (lost p out) = dropped (lostOf t p out .answer) (lostSliceOf t p out)
+tableHeard t (gone (P.Front l) out) = dropped (closedOf t l out .answer) (closedSliceOf t l out)
+tableHeard t (gone (P.Publisher p) out) = dropped (lostOf t p out .answer) (lostSliceOf t p out)
 
 abbrev pub tableAfter : Table → Call → Table
 tableAfter t (ask l n p) = askOf t l n p .table
 tableAfter t (reply p n) = replyOf t p n .table
 tableAfter t (cancel l n) = cancelOf t l n .table
-tableAfter t (closed l out) = closedOf t l out .table
-tableAfter t (lost p out) = lostOf t p out .table
+tableAfter t (gone (P.Front l) out) = closedOf t l out .table
+tableAfter t (gone (P.Publisher p) out) = lostOf t p out .table
 
 unfoldable pub tableRun : Table → List Call → List Heard
 tableRun t [] = []

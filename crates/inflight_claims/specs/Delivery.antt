@@ -13,11 +13,12 @@ use Rattle.wire.specs.Choice.{pick}
 use Rattle.inflight.specs.Numbers.{after}
 use Rattle.inflight.specs.Matching.{matches}
 use Rattle.inflight.specs.Tables.{Table, Sized, freshOf}
-use Rattle.inflight.specs.Calls.{Call, Heard, ask, reply, cancel, closed, lost, asked, replied, cancelled, dropped, tableHeard, tableAt}
+use Rattle.inflight.specs.Calls.{Call, Heard, ask, reply, cancel, gone, asked, replied, cancelled, dropped}
+use Rattle.inflight.specs.Calls.{tableHeard, tableAt}
 use Rattle.inflight.specs.declared.FrontNumber.{FrontNumber}
 use Rattle.inflight.specs.declared.PublisherNumber.{PublisherNumber}
 use Rattle.inflight.specs.Requests.{Request}
-use Rattle.inflight.specs.Requests.{Reply, Cancel, Closed, Lost}
+use Rattle.inflight.specs.Requests.{Reply, Cancel, keyOf}
 use Rattle.inflight.specs.declared.AskAnswer.the-variants as A
 use Rattle.inflight.specs.declared.ReplyAnswer.the-variants as R
 use Rattle.inflight.specs.declared.CancelAnswer.the-variants as C
@@ -45,13 +46,12 @@ refused (dropped (D.Count n) out) = false
 refused (dropped (D.Refused n) out) = true
 
 -- whether a call, with what was heard of it, frees a request: a reply to its publisher and number, a cancel of its
--- link and front number, its link closed, its publisher lost, none of them refused
+-- link and front number, its link or its publisher gone, none of them refused
 unfoldable pub frees : Request → Call → Heard → Bool
 frees e (ask l f p) h = false
 frees e (reply p x) h = not (refused h) && matches (Reply p x) e
 frees e (cancel l f) h = not (refused h) && matches (Cancel l f) e
-frees e (closed l out) h = not (refused h) && matches (Closed l) e
-frees e (lost p out) h = not (refused h) && matches (Lost p) e
+frees e (gone peer out) h = not (refused h) && matches (keyOf peer) e
 
 -- whether one of the calls that come after the calls `before` frees a request
 unfoldable pub freedSince : Answers → Request → List Call → List Call → Bool
@@ -93,19 +93,19 @@ passed ans first p before s = inRow ans p before 64 (steps s first)
 
 -- the steps of publisher p's numbering: an accepted ask for it goes one step, and one for each number passed over
 unfoldable pub moved : Answers → PublisherNumber → ℕ → List Call → ℕ → Call → ℕ
-moved ans first p before s (ask l f q) = pick (eqb q p && not (refused (ans before (ask l f q)))) (suc (passed ans first p before s + s)) s
+moved ans first p before s (ask l f q) =
+    pick (eqb q p && not (refused (ans before (ask l f q)))) (suc (passed ans first p before s + s)) s
 moved ans first p before s (reply q x) = s
 moved ans first p before s (cancel l f) = s
-moved ans first p before s (closed l out) = s
-moved ans first p before s (lost q out) = s
+moved ans first p before s (gone peer out) = s
 
-unfoldable pub goneFrom : Answers → PublisherNumber → ℕ → List Call → ℕ → List Call → ℕ
-goneFrom ans first p before s [] = s
-goneFrom ans first p before s (c ∷ cs) = goneFrom ans first p (before ++ c ∷ []) (moved ans first p before s c) cs
+unfoldable pub steppedFrom : Answers → PublisherNumber → ℕ → List Call → ℕ → List Call → ℕ
+steppedFrom ans first p before s [] = s
+steppedFrom ans first p before s (c ∷ cs) = steppedFrom ans first p (before ++ c ∷ []) (moved ans first p before s c) cs
 
 -- how many steps publisher p's numbering has gone after some calls
-abbrev pub gone : Answers → PublisherNumber → ℕ → List Call → ℕ
-gone ans first p cs = goneFrom ans first p [] 0 cs
+abbrev pub stepped : Answers → PublisherNumber → ℕ → List Call → ℕ
+stepped ans first p cs = steppedFrom ans first p [] 0 cs
 
 -- ---- the claim
 
@@ -120,36 +120,45 @@ pub record Delivery (ans : Answers) (first : PublisherNumber) (cs : List Call) :
   pub carried : (l : ℕ) (f : FrontNumber) (p : ℕ) (x : PublisherNumber) → Carried ans cs (request l f p x)
       → ans cs (reply p x) ≡ replied (R.Front l f)
   -- that ask is one: two that are in flight with one publisher and number stand at one place of the list
-  pub one : (e d : Request) → e .publisher ≡ d .publisher → e .number ≡ d .number → (c : Carried ans cs e) (b : Carried ans cs d)
-      → c .before ≡ b .before
+  pub one : (e d : Request) → e .publisher ≡ d .publisher → e .number ≡ d .number → (c : Carried ans cs e)
+      (b : Carried ans cs d) → c .before ≡ b .before
   -- and of all asks that this publisher accepted with that number, freed since or not, it is the only one since the
   -- numbering last went round
-  pub only : (e : Request) (c : Carried ans cs e) (d : Request) (before since : List Call) → cs ≡ before ++ askFor d ∷ since
+  pub only : (e : Request) (c : Carried ans cs e) (d : Request) (before since : List Call)
+      → cs ≡ before ++ askFor d ∷ since
       → ans before (askFor d) ≡ asked (A.Accepted (d .number)) → d .publisher ≡ e .publisher → d .number ≡ e .number
-      → gone ans first (e .publisher) cs < gone ans first (e .publisher) (before ++ askFor d ∷ []) + round → before ≡ c .before
+      → stepped ans first (e .publisher) cs < stepped ans first (e .publisher) (before ++ askFor d ∷ []) + round
+      → before ≡ c .before
   -- a second reply directly after it finds nothing
   pub twice : (l : ℕ) (f : FrontNumber) (p : ℕ) (x : PublisherNumber) → ans cs (reply p x) ≡ replied (R.Front l f)
       → ans (cs ++ reply p x ∷ []) (reply p x) ≡ replied (R.Refused 34)
   -- a reply to which no such ask belongs, and to which 30 and 12 do not apply, finds nothing
-  pub nowhere : (p : ℕ) (x : PublisherNumber) → p < 8 → (x .0 ≡ pos 0 → ⊥) → ((l : ℕ) (f : FrontNumber) → Carried ans cs (request l f p x) → ⊥)
+  pub nowhere : (p : ℕ) (x : PublisherNumber) → p < 8 → (x .0 ≡ pos 0 → ⊥)
+      → ((l : ℕ) (f : FrontNumber) → Carried ans cs (request l f p x) → ⊥)
       → ans cs (reply p x) ≡ replied (R.Refused 34)
   -- a late answer: a reply to an ask that was freed since finds nothing until the numbering of its publisher has gone
   -- right round
-  pub overdue : (e : Request) (before since : List Call) → cs ≡ before ++ askFor e ∷ since → ans before (askFor e) ≡ asked (A.Accepted (e .number))
+  pub overdue : (e : Request) (before since : List Call) → cs ≡ before ++ askFor e ∷ since
+      → ans before (askFor e) ≡ asked (A.Accepted (e .number))
       → freedSince ans e (before ++ askFor e ∷ []) since ≡ true
-      → gone ans first (e .publisher) cs < gone ans first (e .publisher) (before ++ askFor e ∷ []) + round
+      → stepped ans first (e .publisher) cs < stepped ans first (e .publisher) (before ++ askFor e ∷ []) + round
       → ans cs (reply (e .publisher) (e .number)) ≡ replied (R.Refused 34)
   -- an accepted ask gets the next number of its publisher, passing over any in flight with it
   pub numbered : (e : Request) → ans cs (askFor e) ≡ asked (A.Accepted (e .number))
-      → e .number ≡ steps (passed ans first (e .publisher) cs (gone ans first (e .publisher) cs) + gone ans first (e .publisher) cs) first
+      → e .number
+      ≡ steps
+      (passed ans first (e .publisher) cs (stepped ans first (e .publisher) cs) + stepped ans first (e .publisher) cs)
+      first
   -- so a number comes to a publisher again only after its numbering has gone right round
-  pub again : (e d : Request) (before since : List Call) → cs ≡ before ++ askFor e ∷ since → ans before (askFor e) ≡ asked (A.Accepted (e .number))
+  pub again : (e d : Request) (before since : List Call) → cs ≡ before ++ askFor e ∷ since
+      → ans before (askFor e) ≡ asked (A.Accepted (e .number))
       → ans cs (askFor d) ≡ asked (A.Accepted (d .number))
       → d .publisher ≡ e .publisher → d .number ≡ e .number
-      → gone ans first (e .publisher) (before ++ askFor e ∷ []) + round ≤ gone ans first (e .publisher) (cs ++ askFor d ∷ [])
+      → stepped ans first (e .publisher) (before ++ askFor e ∷ []) + round
+      ≤ stepped ans first (e .publisher) (cs ++ askFor d ∷ [])
   -- "and never while it is in flight"
-  pub apart : (e d : Request) → Carried ans cs e → ans cs (askFor d) ≡ asked (A.Accepted (d .number)) → d .publisher ≡ e .publisher
-      → d .number ≡ e .number → ⊥
+  pub apart : (e d : Request) → Carried ans cs e → ans cs (askFor d) ≡ asked (A.Accepted (d .number))
+      → d .publisher ≡ e .publisher → d .number ≡ e .number → ⊥
 
 -- the claim: for every table whose arrays have their sizes, whatever they hold, every first number from 1 to the
 -- largest, and every list of calls

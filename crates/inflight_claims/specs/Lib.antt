@@ -3,4 +3,5 @@ pub mod ListClaim
 pub mod Rows
 pub mod Delivery
 pub mod Before
+pub mod TwoCalls
 pub mod Slots

@@ -1,7 +1,7 @@
 -- Demand 3, one claim about the list. For every table of the types' sizes, first number from 1 on and list of ask,
--- reply, cancel, closed and lost calls, refused ones included: every answer, refusal number and whole slice of the
--- table is the model's; and at every point of the list the model keeps to the sentences on capacity, and holds no
--- number twice.
+-- reply, cancel and gone calls, refused ones included, where gone stands for closed and lost: every answer, refusal
+-- number and whole slice of the table is the model's; and at every point of the list the model keeps to the sentences
+-- on capacity, and holds no number twice.
 -- Assumes nothing.
 use mathlib.Core.Path.{_≡_}
 use Prim.Native.Nat.{ℕ, _≤_, _<_}
@@ -34,7 +34,7 @@ pub record Capacity (m : Model) (l : ℕ) (n : FrontNumber) (p : ℕ) : Type 0 w
   -- load under 4: accepted
   pub under : load (m .requests) p < 4 → askAnswer m l n p ≡ Accepted (given m p)
   -- 4 to 15: refused with 33 exactly when the eight loads, each counted as at least 4, add up to 64
-  pub gone : 4 ≤ load (m .requests) p → load (m .requests) p ≤ 15 → capacityTaken (m .requests) ≡ 64 → askAnswer m l n p ≡ Refused 33
+  pub taken : 4 ≤ load (m .requests) p → load (m .requests) p ≤ 15 → capacityTaken (m .requests) ≡ 64 → askAnswer m l n p ≡ Refused 33
   pub only : 4 ≤ load (m .requests) p → load (m .requests) p ≤ 15 → askAnswer m l n p ≡ Refused 33 → capacityTaken (m .requests) ≡ 64
   pub left : 4 ≤ load (m .requests) p → load (m .requests) p ≤ 15 → (capacityTaken (m .requests) ≡ 64 → ⊥) → askAnswer m l n p ≡ Accepted (given m p)
   -- at 16: refused with 32
@@ -61,7 +61,7 @@ pub record Kept (m : Model) : Type 0 where
 pub record ListClaim (t : Table) (first : PublisherNumber) (cs : List Call) : Type 0 where
   -- fresh accepts the first number
   pub ready : freshOf t first .answer ≡ F.Ready
-  -- all that a caller gets: of every call its result or refusal number, and of closed and lost the whole lent slice
+  -- all that a caller gets: of every call its result or refusal number, and of a gone peer the whole lent slice
   -- after it, at every place of the list. The tables themselves are heard by the calls that follow, since the list is
   -- any
   pub heard : tableRun (freshOf t first .table) cs ≡ modelRun (empty first) cs

@@ -1,17 +1,18 @@
--- The refusals of the five calls, each "exactly when its row applies and none earlier does": row by row, of every book.
+-- The refusals of the four calls, each "exactly when its row applies and none earlier does": row by row, of every book.
 -- By the list claim the table answers so at every point of every list.
 -- Assumes nothing.
 use mathlib.Core.Path.{_≡_}
 use Prim.Native.Nat.{ℕ, _*_, _≤_, _<_}
 use mathlib.Core.List.{List}
-use lib.Dec.{leb}
 use lib.IntN.{ℤ, pos}
 use lib.ListN.{length}
-use Rattle.inflight.specs.Requests.{Key, Reply, Cancel, Closed, Lost}
+use Rattle.inflight.specs.Requests.{Key, Reply, Cancel, keyOf}
 use Rattle.inflight.specs.Matching.{matching}
-use Rattle.inflight.specs.Model.{Model, matched, askAnswer, replyAnswer, cancelAnswer, dropAnswer}
+use Rattle.inflight.specs.Model.{Model, matched, askAnswer, replyAnswer, cancelAnswer, goneAnswer}
 use Rattle.inflight.specs.declared.FrontNumber.{FrontNumber}
 use Rattle.inflight.specs.declared.PublisherNumber.{PublisherNumber}
+use Rattle.inflight.specs.declared.Peer.{Peer}
+use Rattle.inflight.specs.declared.Peer.the-variants as P
 use Rattle.inflight.specs.declared.AskAnswer.the-variants as A
 use Rattle.inflight.specs.declared.ReplyAnswer.the-variants as R
 use Rattle.inflight.specs.declared.CancelAnswer.the-variants as C
@@ -47,17 +48,17 @@ pub record CancelRows (m : Model) (l : ℕ) (n : FrontNumber) : Type 0 where
   pub one : l < 32 → (n .0 ≡ pos 0 → ⊥) → (None (Cancel l n) m → ⊥)
       → cancelAnswer m l n ≡ C.Publisher (matched m (Cancel l n) .publisher) (matched m (Cancel l n) .number)
 
--- closed and lost, by the number, its limit and what it names: 30, 16, and else the count
-pub record DropRows (m : Model) (limit x : ℕ) (k : Key) (out : List ℤ) : Type 0 where
-  pub range : limit ≤ x → dropAnswer m (leb limit x) k out ≡ D.Refused 30
-  pub short : x < limit → length out < 2 * length (matching k (m .requests))
-      → dropAnswer m (leb limit x) k out ≡ D.Refused 16
-  pub all : x < limit → 2 * length (matching k (m .requests)) ≤ length out
-      → dropAnswer m (leb limit x) k out ≡ D.Count (length (matching k (m .requests)))
+-- gone, by the peer, its number and its side's limit: 30, 16, and else the count
+pub record GoneRows (m : Model) (peer : Peer) (limit x : ℕ) (out : List ℤ) : Type 0 where
+  pub range : limit ≤ x → goneAnswer m peer out ≡ D.Refused 30
+  pub short : x < limit → length out < 2 * length (matching (keyOf peer) (m .requests))
+      → goneAnswer m peer out ≡ D.Refused 16
+  pub all : x < limit → 2 * length (matching (keyOf peer) (m .requests)) ≤ length out
+      → goneAnswer m peer out ≡ D.Count (length (matching (keyOf peer) (m .requests)))
 
 pub record Rows (m : Model) : Type 0 where
   pub ask : (l : ℕ) (n : FrontNumber) (p : ℕ) → AskRows m l n p
   pub reply : (p : ℕ) (n : PublisherNumber) → ReplyRows m p n
   pub cancel : (l : ℕ) (n : FrontNumber) → CancelRows m l n
-  pub closed : (l : ℕ) (out : List ℤ) → DropRows m 32 l (Closed l) out
-  pub lost : (p : ℕ) (out : List ℤ) → DropRows m 8 p (Lost p) out
+  pub front : (l : ℕ) (out : List ℤ) → GoneRows m (P.Front l) 32 l out
+  pub publisher : (p : ℕ) (out : List ℤ) → GoneRows m (P.Publisher p) 8 p out

@@ -3,6 +3,7 @@
 // to (`listed`). specs/Rows.antt: the refusals of each call, row by row in their order (`rows`).
 // specs/Delivery.antt: a reply goes to the one ask that carried its number to that publisher, once, or nowhere
 // (`delivered`). specs/Before.antt: every first number, and every list of calls on a fresh table, is answered as the
-// table without slots and masks answered it (`as-before`).
+// table without slots and masks answered it (`as-before`). specs/TwoCalls.antt: the one call for a gone peer does what
+// closed and lost did, on any contents (`for-both`).
 // specs/Slots.antt: loads and requests in flight are counts of ones in masks, and no call moves a request
 // (`loads-by-masks`, `used-by-mask`, `never-moves`).

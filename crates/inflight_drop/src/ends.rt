@@ -14,9 +14,9 @@ fn sized(a: [u8; 64])
 {}
 
 // How many of the first n bytes of a line name slots of a mask.
-pub(crate) fn count_leaving(line: &[u8; 64], n: usize, gone: u64) -> usize
+pub(crate) fn count_leaving(line: &[u8; 64], n: usize, mask: u64) -> usize
     requires { ⌜ n ≤ 64 ⌝ }
-    ensures { λ r. ⌜ (r ≡ length (within gone (take n (now (line .entry))))) × (r ≤ n) ⌝ }
+    ensures { λ r. ⌜ (r ≡ length (within mask (take n (now (line .entry))))) × (r ≤ n) ⌝ }
 {
     sized(*line);
     let mut i: usize = 0;
@@ -24,7 +24,7 @@ pub(crate) fn count_leaving(line: &[u8; 64], n: usize, gone: u64) -> usize
     while i < n {
         let x = line[i];
         i += 1;
-        if holds(gone, x) {
+        if holds(mask, x) {
             sum += 1;
         }
     }
@@ -51,14 +51,14 @@ pub(crate) fn write_ends(
     places: &[u8; 128],
     line: &[u8; 64],
     n: usize,
-    gone: u64,
+    mask: u64,
     base: usize,
     out: &mut [i64],
 )
-    requires { ⌜ (n ≤ 64) × (base ≤ 64) × (2 * length (within gone (take n (now line))) ≤ length (now out)) ⌝ }
+    requires { ⌜ (n ≤ 64) × (base ≤ 64) × (2 * length (within mask (take n (now line))) ≤ length (now out)) ⌝ }
     ensures { λ r. ⌜ now (out .exit)
         ≡ overFront (endsOf (now (numbers .entry)) (now (places .entry)) base
-        (within gone (take n (now (line .entry)))))
+        (within mask (take n (now (line .entry)))))
         (now (out .entry)) ⌝ }
 {
     sized(*line);
@@ -67,7 +67,7 @@ pub(crate) fn write_ends(
     while i < n {
         let x = line[i];
         i += 1;
-        if holds(gone, x) {
+        if holds(mask, x) {
             let s = base + (x % 64) as usize;
             let a = end_place(places, s);
             let b = numbers[s];

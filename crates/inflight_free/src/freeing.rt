@@ -2,13 +2,12 @@
 use inflight_slots::bit;
 use inflight_slots::count;
 use inflight_slots::holds;
-use inflight_slots::lay_out;
 ghost use mathlib.Core.Path.{_≡_};
 ghost use mathlib.Core.List.{map};
 ghost use Prim.Native.Nat.{_^_, _%_, _≤_};
 ghost use lib.Count.{ones};
-ghost use lib.ListN.{length, take, getD, replicate};
-ghost use Rattle.inflight.specs.Masks.{slots, outside, laidOut, closedUp, placedAnew};
+ghost use lib.ListN.{length, take, getD};
+ghost use Rattle.inflight.specs.Masks.{outside, closedUp, placedAnew};
 ghost use Rattle.inflight.specs.Tables.{cutAll};
 
 // What the type says of a lent array's length, for the proofs: it compiles to nothing.
@@ -41,10 +40,10 @@ fn close_up(order: &mut [u8; 64], a: u8)
 }
 
 // The first n slots of a line, without those of a mask, take their places anew.
-fn place_anew(order: &mut [u8; 64], line: &[u8; 64], n: usize, gone: u64)
+fn place_anew(order: &mut [u8; 64], line: &[u8; 64], n: usize, mask: u64)
     requires { ⌜ n ≤ 64 ⌝ }
     ensures { λ r. ⌜ now (order .exit)
-        ≡ placedAnew (outside gone (take n (now (line .entry)))) 0 (now (order .entry)) ⌝ }
+        ≡ placedAnew (outside mask (take n (now (line .entry)))) 0 (now (order .entry)) ⌝ }
 {
     sized_order(*line);
     let mut i: usize = 0;
@@ -52,7 +51,7 @@ fn place_anew(order: &mut [u8; 64], line: &[u8; 64], n: usize, gone: u64)
     while i < n {
         let x = line[i];
         i += 1;
-        if !holds(gone, x) {
+        if !holds(mask, x) {
             order[(x % 64) as usize] = k as u8;
             k += 1;
         }
@@ -60,11 +59,11 @@ fn place_anew(order: &mut [u8; 64], line: &[u8; 64], n: usize, gone: u64)
 }
 
 // Every mask without the slots of one.
-fn cut_all(masks: &mut [u64; 9], gone: u64)
-    ensures { λ r. ⌜ now (masks .exit) ≡ cutAll gone (now (masks .entry)) ⌝ }
+fn cut_all(masks: &mut [u64; 9], mask: u64)
+    ensures { λ r. ⌜ now (masks .exit) ≡ cutAll mask (now (masks .entry)) ⌝ }
 {
     sized_masks(*masks);
-    let keep = !gone;
+    let keep = !mask;
     let mut i: usize = 0;
     while i < 9 {
         masks[i] = masks[i] & keep;
@@ -82,17 +81,15 @@ pub fn free(masks: &mut [u64; 9], order: &mut [u8; 64], s: usize)
     cut_all(masks, bit(s));
 }
 
-// The slots of a mask are freed.
-pub fn strike(masks: &mut [u64; 9], order: &mut [u8; 64], gone: u64)
-    ensures { λ r. ⌜ (now (masks .exit) ≡ cutAll gone (now (masks .entry)))
-        × (now (order .exit) ≡ placedAnew (outside gone (take (ones (getD (now (masks .entry)) 0 0))
-        (laidOut (now (order .entry)) (slots (getD (now (masks .entry)) 0 0)) (replicate 64 0))))
+// The slots of a mask are freed. Of the first bytes of a line, as many as slots are used, those that stay take their
+// places anew. The line is the caller's: the used slots by their places, laid out to list those that leave.
+pub fn strike(masks: &mut [u64; 9], order: &mut [u8; 64], line: &[u8; 64], mask: u64)
+    ensures { λ r. ⌜ (now (masks .exit) ≡ cutAll mask (now (masks .entry)))
+        × (now (order .exit)
+        ≡ placedAnew (outside mask (take (ones (getD (now (masks .entry)) 0 0)) (now (line .entry))))
         0 (now (order .entry))) ⌝ }
 {
-    let used = masks[0];
-    let n = count(used);
-    let mut line = [0u8; 64];
-    lay_out(used, order, &mut line);
-    place_anew(order, &line, n, gone);
-    cut_all(masks, gone);
+    let n = count(masks[0]);
+    place_anew(order, line, n, mask);
+    cut_all(masks, mask);
 }

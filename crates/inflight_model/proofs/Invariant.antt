@@ -18,12 +18,12 @@ use Rattle.inflight.proofs.NumberLaws.{same-true, eq-same, ne-same}
 use Rattle.inflight.specs.Matching.{matches, matching, without, nextFree}
 use Rattle.inflight.specs.Model.{Model, askRefusal, takeRefusal, dropRefusal, given, entry}
 use Rattle.inflight.specs.Model as M
-use Rattle.inflight.specs.Calls.{Call, ask, reply, cancel, closed, lost, modelAfter, modelAt}
+use Rattle.inflight.specs.Calls.{Call, ask, reply, cancel, gone, modelAfter, modelAt}
 use Rattle.inflight.specs.declared.FrontNumber.{FrontNumber}
 use Rattle.inflight.specs.declared.PublisherNumber.{PublisherNumber}
 use Rattle.inflight.specs.Requests.{Request}
 use Rattle.inflight.specs.Requests.{Key}
-use Rattle.inflight.specs.Requests.{Reply, Cancel, Closed, Lost}
+use Rattle.inflight.specs.Requests.{Reply, Cancel, keyOf}
 use Rattle.inflight.proofs.MatchLaws.{matching-append}
 use Rattle.inflight_model.proofs.Capacity.{Bounded, accepts, bounded-none, bounded-space, bounded-snoc}
 use Rattle.inflight_model.proofs.Capacity.{bounded-without}
@@ -195,8 +195,8 @@ unfolding M.taken M.dropped
 inv-call b (ask l n p) f = inv-ask b l n p f
 inv-call b (reply p n) f = inv-pick (eqb (takeRefusal b (M.noPublisher p) (n .0) (Reply p n)) 0) _ b (inv-removed b (Reply p n) f) f
 inv-call b (cancel l n) f = inv-pick (eqb (takeRefusal b (M.noLink l) (n .0) (Cancel l n)) 0) _ b (inv-removed b (Cancel l n) f) f
-inv-call b (closed l out) f = inv-pick (eqb (dropRefusal b (M.noLink l) (Closed l) out) 0) _ b (inv-removed b (Closed l) f) f
-inv-call b (lost p out) f = inv-pick (eqb (dropRefusal b (M.noPublisher p) (Lost p) out) 0) _ b (inv-removed b (Lost p) f) f
+inv-call b (gone peer out) f =
+    inv-pick (eqb (dropRefusal b (M.noPeer peer) (keyOf peer) out) 0) _ b (inv-removed b (keyOf peer) f) f
 
 inv-from : (cs : List Call) (b : Model) → Invariant b → Invariant (modelAt b cs)
 unfolding modelAt

@@ -15,8 +15,8 @@ pub fn step(n: PublisherNumber) -> PublisherNumber
     PublisherNumber(n.0 + 1)
 }
 
-// From n on, the first number that no slot of a mask has, looked for at so many numbers; after them the next one. A mask
-// has fewer slots than are tried, on tables that a fresh one leads to.
+// From n on, the first number that no slot of a mask has, looked for at so many numbers; after them the next one, which
+// is free on tables that a fresh one leads to: there a mask has no more slots than numbers are tried.
 pub fn free_number(
     mask: u64,
     numbers: &[i64; 136],

@@ -2,8 +2,8 @@
 use crate::capacity::capacity_taken;
 use inflight::FrontNumber;
 use inflight::same_front;
+use inflight_fronts::find_front;
 use inflight_slots::count;
-use inflight_slots::find_front;
 use refusal::CAPACITY_GONE;
 use refusal::IN_FLIGHT_ALREADY;
 use refusal::LOAD_AT_LIMIT;

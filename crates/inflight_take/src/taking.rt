@@ -6,7 +6,7 @@ use inflight::ReplyAnswer;
 use inflight::same_front;
 use inflight::same_number;
 use inflight_free::free;
-use inflight_slots::find_front;
+use inflight_fronts::find_front;
 use inflight_slots::find_number;
 use refusal::NO_SUCH_REQUEST;
 use refusal::NUMBER_ZERO;

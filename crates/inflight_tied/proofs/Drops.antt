@@ -1,4 +1,4 @@
--- On a tied table closed and lost are answered, write their slice and leave the table as the model does.
+-- On a tied table a gone peer is answered, its slice written and the table left as the model does.
 -- Assumes nothing.
 use mathlib.Core.Path.{_≡_, refl, sym, ap, _∙_}
 use Prim.Native.Nat.{ℕ, zero, suc, _+_, _*_, _/_, _%_, _^_, _≤_, _<_, max}
@@ -6,18 +6,20 @@ use native.Mathlib.Omega.{arith}
 use mathlib.Core.Bool.{Bool, true, false}
 use mathlib.Core.List.{List, [], _∷_, map}
 use lib.Bits.{bitOr, or-lt}
-use lib.Dec.{eqb, leb, ltb}
+use lib.Dec.{eqb, ltb}
 use lib.IntN.{ℤ}
-use lib.ListN.{length, getD}
+use lib.ListN.{length}
 use borrow.Author.Tests.{eqb-true, eqb-false, leb-false}
 use Rattle.wire.specs.Choice.{pick}
 use Rattle.inflight.specs.Masks.{bitAt, slotsFrom, slots, gather, has, within}
 use Rattle.inflight.specs.Matching.{matches, matching, otherEnds, overFront}
-use Rattle.inflight.specs.Requests.{Request, Key, Closed, Lost}
-use Rattle.inflight.specs.Model.{dropRefusal, dropAnswer, dropSlice, dropped, noLink, noPublisher}
+use Rattle.inflight.specs.Requests.{Request, Key, keyOf}
+use Rattle.inflight.specs.declared.Peer.{Peer}
+use Rattle.inflight.specs.declared.Peer.the-variants as P
+use Rattle.inflight.specs.Model.{dropRefusal, dropAnswer, dropSlice, dropped, noPeer}
 use Rattle.inflight.specs.declared.DropAnswer.the-variants as D
-use Rattle.inflight.specs.Tables.{Table, line, used, mine, isLink, linked, leaving, endsOf, struck, Dropped, dropOf}
-use Rattle.inflight.specs.Tables.{closedOf, lostOf}
+use Rattle.inflight.specs.Tables.{Table, line, used, isLink, slotsOf, leaving, otherAt, endsOf, struck, Dropped, dropOf}
+use Rattle.inflight.specs.Tables.{goneOf}
 use Rattle.inflight_tied.proofs.Tied.{occ, Below, Tied, entry, inFlight, modelOf}
 use Rattle.inflight_tied.proofs.Ties.{bit-or, bit-most}
 use Rattle.inflight_tied.proofs.Loads.{length-of-map}
@@ -147,19 +149,35 @@ within-below g (x ∷ xs) b = go (has g x) (within-below g xs (b .1))
     go true h = (b .0, h)
     go false h = h
 
-closed-ends : (w : Table) (l : ℕ) (xs : List ℕ) → Below 64 xs
-    → endsOf (w .numbers) (w .places) 64 xs ≡ otherEnds (Closed l) (map (entry w) xs)
-unfolding endsOf otherEnds entry Below
-closed-ends w l [] b = refl
-closed-ends w l (x ∷ xs) b = let h = b .0 in let z : x % 64 ≡ x = omega arith in rw (z, closed-ends w l xs (b .1))
+-- ---- a peer's slots
 
-lost-ends : (w : Table) (p : ℕ) (xs : List ℕ) → Below 64 xs
-    → endsOf (w .numbers) (w .places) 0 xs ≡ otherEnds (Lost p) (map (entry w) xs)
-unfolding endsOf otherEnds entry Below
-lost-ends w p [] b = refl
-lost-ends w p (x ∷ xs) b = let h = b .0 in let z : 0 + x % 64 ≡ x = omega arith in rw (z, lost-ends w p xs (b .1))
+-- they are among the 64
+pub slots-fit : (w : Table) → Tied w → (peer : Peer) → slotsOf (w .masks) (w .places) peer < 2 ^ 64
+slots-fit w t (P.Front l) = gather-fits (isLink (w .places) l) 64 0 (used w) 0 (omega arith) (omega arith)
+slots-fit w t (P.Publisher p) = t .narrow p
 
--- ---- the calls against the model
+-- they are the used ones whose request the peer names
+peer-bit : (w : Table) → Tied w → (peer : Peer) → noPeer peer ≡ false → (i : ℕ) → i < 64
+    → bitAt i (slotsOf (w .masks) (w .places) peer) ≡ pick (matches (keyOf peer) (entry w i)) (bitAt i (used w)) 0
+unfolding matches entry
+peer-bit w t (P.Front l) r i h = linked-bit (isLink (w .places) l) (used w) i h
+peer-bit w t (P.Publisher p) r i h = t .own p (leb-false 8 p r) i h
+
+-- and what stands at the peer's offset are the other ends
+peer-ends : (w : Table) (peer : Peer) (xs : List ℕ) → Below 64 xs
+    → endsOf (w .numbers) (w .places) (otherAt peer) xs ≡ otherEnds (keyOf peer) (map (entry w) xs)
+unfolding endsOf otherEnds entry Below
+peer-ends w peer [] b = refl
+peer-ends w (P.Front l) (x ∷ xs) b =
+    let h = b .0 in
+    let z : x % 64 ≡ x = omega arith in
+    rw (z, peer-ends w (P.Front l) xs (b .1))
+peer-ends w (P.Publisher p) (x ∷ xs) b =
+    let h = b .0 in
+    let z : 0 + x % 64 ≡ x = omega arith in
+    rw (z, peer-ends w (P.Publisher p) xs (b .1))
+
+-- ---- the call against the model
 
 pub record DropSame (w : Table) (r : Dropped) (range : Bool) (k : Key) (out : List ℤ) : Type 0 where
   pub answer : r .answer ≡ dropAnswer (modelOf w) range k out
@@ -196,45 +214,19 @@ drop-same w t k g base out fits hits ends = go (ltb (length out) (2 * length (le
               (struck-standing w k g t hits fits));
         }
 
-closed-matches : (w : Table) (l i : ℕ) → matches (Closed l) (entry w i) ≡ isLink (w .places) l i
-unfolding matches entry
-closed-matches w l i = refl
-
-lost-matches : (w : Table) (p i : ℕ) → matches (Lost p) (entry w i) ≡ eqb (getD (w .places) (64 + i) 0) p
-unfolding matches entry
-lost-matches w p i = refl
-
-pub closed-same : (w : Table) → Tied w → (l : ℕ) (out : List ℤ)
-    → DropSame w (closedOf w l out) (noLink l) (Closed l) out
-unfolding closedOf
-closed-same w t l out = go (leb 32 l)
+pub gone-same : (w : Table) → Tied w → (peer : Peer) (out : List ℤ)
+    → DropSame w (goneOf w peer out) (noPeer peer) (keyOf peer) out
+unfolding goneOf
+gone-same w t peer out = go (noPeer peer) refl
   where
-    hits : (x : ℕ) → x < 64 → 0 < occ x (line w) → matches (Closed l) (entry w x) ≡ has (linked w l) x
-    hits =
-        hit-has w t (Closed l) (linked w l)
-        (λ i h. linked-bit (isLink (w .places) l) (used w) i h
-        ∙ ap (λ (b : Bool). pick b (bitAt i (used w)) 0) (sym (closed-matches w l i)))
+    g : ℕ
+    g = slotsOf (w .masks) (w .places) peer
 
-    go : (b : Bool)
-        → DropSame w (pick b (record { table = w; answer = D.Refused 30; slice = out }) (dropOf w (linked w l) 64 out))
-        b (Closed l) out
-    go true = refused-same w (Closed l) out
-    go false =
-        drop-same w t (Closed l) (linked w l) 64 out
-        (gather-fits (isLink (w .places) l) 64 0 (used w) 0 (omega arith) (omega arith)) hits
-        (closed-ends w l (leaving w (linked w l)) (within-below (linked w l) (line w) (t .low)))
-
-pub lost-same : (w : Table) → Tied w → (p : ℕ) (out : List ℤ) → DropSame w (lostOf w p out) (noPublisher p) (Lost p) out
-unfolding lostOf
-lost-same w t p out = go (leb 8 p) refl
-  where
-    go : (b : Bool) → leb 8 p ≡ b
-        → DropSame w (pick b (record { table = w; answer = D.Refused 30; slice = out }) (dropOf w (mine w p) 0 out))
-        b (Lost p) out
-    go true e = refused-same w (Lost p) out
+    go : (b : Bool) → noPeer peer ≡ b
+        → DropSame w (pick b (record { table = w; answer = D.Refused 30; slice = out }) (dropOf w g (otherAt peer) out))
+        b (keyOf peer) out
+    go true e = refused-same w (keyOf peer) out
     go false e =
-        let p8 = leb-false 8 p e in
-        drop-same w t (Lost p) (mine w p) 0 out (t .narrow p)
-        (hit-has w t (Lost p) (mine w p)
-        (λ i h. t .own p p8 i h ∙ ap (λ (b : Bool). pick b (bitAt i (used w)) 0) (sym (lost-matches w p i))))
-        (lost-ends w p (leaving w (mine w p)) (within-below (mine w p) (line w) (t .low)))
+        drop-same w t (keyOf peer) g (otherAt peer) out (slots-fit w t peer)
+        (hit-has w t (keyOf peer) g (peer-bit w t peer e))
+        (peer-ends w peer (leaving w g) (within-below g (line w) (t .low)))

@@ -15,18 +15,19 @@ use lib.Seq.{drop-at, length-take-le}
 use Rattle.wire.specs.Choice.{pick}
 use Rattle.wire.proofs.ChoiceLaws.{by-row}
 use Rattle.inflight.specs.Numbers.{same}
-use Rattle.inflight.specs.Model.{Model, askRefusal, empty, noLink, noPublisher}
-use Rattle.inflight.specs.Calls.{Call, Heard, ask, reply, cancel, closed, lost, asked, replied, cancelled, dropped}
+use Rattle.inflight.specs.Model.{Model, askRefusal, empty, noLink, noPublisher, noPeer}
+use Rattle.inflight.specs.Calls.{Call, Heard, ask, reply, cancel, gone, asked, replied, cancelled, dropped}
 use Rattle.inflight.specs.Calls.{tableHeard, tableAfter, tableRun, tableAt, modelHeard, modelAfter, modelRun, modelAt}
 use Rattle.inflight.specs.declared.FrontNumber.{FrontNumber}
 use Rattle.inflight.specs.declared.PublisherNumber.{PublisherNumber}
+use Rattle.inflight.specs.declared.Peer.{Peer}
 use Rattle.inflight.specs.declared.DropAnswer.{DropAnswer}
 use Rattle.inflight.specs.declared.FreshAnswer.{FreshAnswer}
 use Rattle.inflight.specs.declared.FreshAnswer.the-variants as F
 use Rattle.inflight.specs.Masks.{bitAt, outside, laidOut, seek, slots, lowestFree}
-use Rattle.inflight.specs.Tables.{Table, Sized, used, mine, line, linked, leaving, struck, freed, placed, givenOf}
-use Rattle.inflight.specs.Tables.{isNumber, isFront, isLink, askRefusalOf, askOf, replyOf, cancelOf, dropOf, closedOf}
-use Rattle.inflight.specs.Tables.{lostOf, Replied, Cancelled, freshAnswer, freshMasks, freshNumbers, freshOf}
+use Rattle.inflight.specs.Tables.{Table, Sized, used, mine, line, slotsOf, leaving, struck, freed, placed, givenOf}
+use Rattle.inflight.specs.Tables.{isNumber, isFront, askRefusalOf, askOf, replyOf, cancelOf, otherAt, dropOf, goneOf}
+use Rattle.inflight.specs.Tables.{Replied, Cancelled, freshAnswer, freshMasks, freshNumbers, freshOf}
 use Rattle.inflight_model.proofs.Capacity.{accepts, bounded-space}
 use Rattle.inflight_model.proofs.Invariant.{Ranged, Invariant, inv-call, inv-empty}
 use Rattle.inflight_tied.proofs.Tied.{occ, Below, Aged, Tied, entry, inFlight, modelOf}
@@ -36,7 +37,7 @@ use Rattle.inflight_tied.proofs.Cuts.{struck-tied}
 use Rattle.inflight_tied.proofs.Placed.{bit-of-zero}
 use Rattle.inflight_tied.proofs.Loads.{length-standing}
 use Rattle.inflight_tied.proofs.Takes.{reply-same, cancel-same}
-use Rattle.inflight_tied.proofs.Drops.{gather-fits, closed-same, lost-same}
+use Rattle.inflight_tied.proofs.Drops.{slots-fit, gone-same}
 use Rattle.inflight_tied.proofs.Asks.{ask-all}
 
 -- ---- the tie and the sizes are kept
@@ -115,24 +116,15 @@ drop-kept w g base out f h = go (ltb (length out) (2 * length (leaving w g))) re
     go true e = rw e h
     go false e = rw e (struck-kept w g f h)
 
-closed-kept : (w : Table) (l : ℕ) (out : List ℤ) → Kept w → Kept (closedOf w l out .table)
-unfolding closedOf
-closed-kept w l out h = go (leb 32 l) refl
+gone-kept : (w : Table) (peer : Peer) (out : List ℤ) → Kept w → Kept (goneOf w peer out .table)
+unfolding goneOf
+gone-kept w peer out h = go (noPeer peer) refl
   where
-    go : (x : Bool) → leb 32 l ≡ x → Kept (closedOf w l out .table)
+    go : (x : Bool) → noPeer peer ≡ x → Kept (goneOf w peer out .table)
     go true e = rw e h
     go false e =
         rw e
-        (drop-kept w (linked w l) 64 out
-        (gather-fits (isLink (w .places) l) 64 0 (used w) 0 (omega arith) (omega arith)) h)
-
-lost-kept : (w : Table) (p : ℕ) (out : List ℤ) → Kept w → Kept (lostOf w p out .table)
-unfolding lostOf
-lost-kept w p out h = go (leb 8 p) refl
-  where
-    go : (x : Bool) → leb 8 p ≡ x → Kept (lostOf w p out .table)
-    go true e = rw e h
-    go false e = rw e (drop-kept w (mine w p) 0 out (h .tied .narrow p) h)
+        (drop-kept w (slotsOf (w .masks) (w .places) peer) (otherAt peer) out (slots-fit w (h .tied) peer) h)
 
 -- ---- one call
 
@@ -176,12 +168,9 @@ same-call w (cancel l n) g =
       table = r .table;
       kept = record { tied = r .kept; sized = cancel-sized w l n (g .kept .sized) };
     }
-same-call w (closed l out) g =
-    let r = closed-same w (g .kept .tied) l out in
-    record { answer = heard-eq (r .answer) (r .slice); table = r .table; kept = closed-kept w l out (g .kept) }
-same-call w (lost p out) g =
-    let r = lost-same w (g .kept .tied) p out in
-    record { answer = heard-eq (r .answer) (r .slice); table = r .table; kept = lost-kept w p out (g .kept) }
+same-call w (gone peer out) g =
+    let r = gone-same w (g .kept .tied) peer out in
+    record { answer = heard-eq (r .answer) (r .slice); table = r .table; kept = gone-kept w peer out (g .kept) }
 
 pub good-after : (w : Table) (c : Call) → Good w → Good (tableAfter w c)
 good-after w c g =

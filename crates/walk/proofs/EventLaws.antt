@@ -1,24 +1,25 @@
 -- A whole record is within the bytes that it was read from.
 -- Assumes nothing.
-use mathlib.Core.Path.{_≡_, refl, sym, ap, _∙_}
+use mathlib.Core.Path.{_≡_, refl}
 use mathlib.Core.Bool.{Bool, true, false, true≢false}
 use mathlib.Core.List.{List, [], _∷_}
-use Prim.Native.Nat.{ℕ, suc, _≤_, _<_}
+use Prim.Native.Nat.{ℕ, suc, _≤_}
 use native.Mathlib.Omega.{arith}
 use borrow.Author.Tests.{leb-false}
 use lib.Dec.{eqb, leb}
 use lib.ListN.{length, getD}
-use Rattle.wire.specs.Choice.{pick, first}
+use Rattle.wire.specs.Choice.{first}
 use Rattle.inflight.specs.declared.FrontNumber.{FrontNumber}
 use Rattle.inflight.specs.declared.PublisherNumber.{PublisherNumber}
-use Rattle.walk_turn.specs.declared.Event.{Event}
-use Rattle.walk_turn.specs.declared.Event.the-variants.{Ask, Reply, Cancel, Closed, Lost, End, Cut, Unknown}
+use Rattle.inflight.specs.declared.Peer.the-variants as P
+use Rattle.walk_turn.specs.declared.Event.the-variants.{Ask, Reply, Cancel, Gone, End, Cut, Unknown}
 use Rattle.walk.specs.Events.{bodySize, bodyOf, eventOf, recordSize, frontNumber, publisherNumber}
 
 -- the five kinds, by their tests
 kinds : (a b c d e : Bool) (l p : ℕ) (f : FrontNumber) (n : PublisherNumber)
     → eqb (first ((a, 10) ∷ (b, 9) ∷ (c, 9) ∷ (d, 1) ∷ (e, 1) ∷ []) 0) 0 ≡ false
-    → recordSize (first ((a, Ask l f p) ∷ (b, Reply l n) ∷ (c, Cancel l f) ∷ (d, Closed l) ∷ []) (Lost l))
+    → recordSize
+    (first ((a, Ask l f p) ∷ (b, Reply l n) ∷ (c, Cancel l f) ∷ (d, Gone (P.Front l)) ∷ []) (Gone (P.Publisher l)))
     ≡ suc (first ((a, 10) ∷ (b, 9) ∷ (c, 9) ∷ (d, 1) ∷ (e, 1) ∷ []) 0)
 kinds true b c d e l p f n h = refl
 kinds false true c d e l p f n h = refl

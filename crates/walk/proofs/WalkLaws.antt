@@ -19,14 +19,17 @@ use Rattle.inflight.specs.declared.CancelAnswer.{CancelAnswer}
 use Rattle.inflight.specs.declared.CancelAnswer.the-variants as C
 use Rattle.inflight.specs.declared.DropAnswer.{DropAnswer}
 use Rattle.inflight.specs.declared.DropAnswer.the-variants as D
-use Rattle.inflight.specs.Tables.{Table, askOf, replyOf, cancelOf, closedOf, lostOf}
+use Rattle.inflight.specs.Tables.{Table, askOf, replyOf, cancelOf, goneOf}
+use Rattle.inflight.specs.declared.Peer.{Peer}
+use Rattle.inflight.specs.declared.Peer.the-variants as P
 use lib.IntN.{ℤ}
-use Rattle.walk_turn.specs.Lines.{askLine, replyLine, cancelLine, droppedLines, callLines, countOf, askWord, replyWord, cancelWord, closedWord, lostWord}
+use Rattle.walk_turn.specs.Lines.{askLine, replyLine, cancelLine, droppedLines, callLines, countOf}
+use Rattle.walk_turn.specs.Lines.{askWord, replyWord, cancelWord, goneWord}
 use Rattle.walk_turn.specs.Turn.{Turned, linesOf, afterEvent, turnOf, lentSlice}
 use Rattle.walk_turn.specs.declared.Event.{Event}
-use Rattle.walk_turn.specs.declared.Event.the-variants.{Ask, Reply, Cancel, Closed, Lost, End, Cut, Unknown}
+use Rattle.walk_turn.specs.declared.Event.the-variants.{Ask, Reply, Cancel, Gone, End, Cut, Unknown}
 use Rattle.walk_turn.proofs.LineLaws.{line-most, pair-most, refused-most, drops-most}
-use Rattle.walk_turn.proofs.TurnLaws.{closed-count, lost-count}
+use Rattle.walk_turn.proofs.TurnLaws.{gone-count}
 use Rattle.walk.specs.Events.{eventOf, recordSize, waits}
 use Rattle.walk.specs.Walk.{Outcome, ends, after, walkFrom, walkOf, Told}
 use Rattle.walk.proofs.EventLaws.{record-fits}
@@ -53,13 +56,18 @@ unfolding droppedLines
 dropped-short word (D.Count n) out w h = rw length-append (omega (arith, line-most word (pos n), drops-most n out))
 dropped-short word (D.Refused k) out w h = omega (arith, refused-most k)
 
+word-short : (peer : Peer) → length (goneWord peer) ≤ 8
+word-short (P.Front l) = omega arith
+word-short (P.Publisher p) = omega arith
+
 pub lines-short : (t : Table) (e : Event) → length (linesOf t e) ≤ 4096
 unfolding linesOf callLines
 lines-short t (Ask l n p) = ask-short (askOf t l n p .answer)
 lines-short t (Reply p n) = reply-short (replyOf t p n .answer)
 lines-short t (Cancel l n) = cancel-short (cancelOf t l n .answer)
-lines-short t (Closed l) = dropped-short closedWord (closedOf t l lentSlice .answer) (closedOf t l lentSlice .slice) (omega arith) (closed-count t l lentSlice)
-lines-short t (Lost p) = dropped-short lostWord (lostOf t p lentSlice .answer) (lostOf t p lentSlice .slice) (omega arith) (lost-count t p lentSlice)
+lines-short t (Gone peer) =
+    dropped-short (goneWord peer) (goneOf t peer lentSlice .answer) (goneOf t peer lentSlice .slice) (word-short peer)
+    (gone-count t peer lentSlice)
 lines-short t End = omega (arith, refused-most 35)
 lines-short t Cut = omega (arith, refused-most 35)
 lines-short t Unknown = omega (arith, refused-most 35)
@@ -70,8 +78,7 @@ unfolding afterEvent
 no-call t (Ask l n p) h = absurd (omega arith)
 no-call t (Reply p n) h = absurd (omega arith)
 no-call t (Cancel l n) h = absurd (omega arith)
-no-call t (Closed l) h = absurd (omega arith)
-no-call t (Lost p) h = absurd (omega arith)
+no-call t (Gone peer) h = absurd (omega arith)
 no-call t End h = refl
 no-call t Cut h = refl
 no-call t Unknown h = refl

@@ -11,8 +11,9 @@ use Rattle.wire.specs.Bytes.{le, part}
 use Rattle.wire.specs.Choice.{first}
 use Rattle.inflight.specs.declared.FrontNumber.{FrontNumber}
 use Rattle.inflight.specs.declared.PublisherNumber.{PublisherNumber}
+use Rattle.inflight.specs.declared.Peer.the-variants as P
 use Rattle.walk_turn.specs.declared.Event.{Event}
-use Rattle.walk_turn.specs.declared.Event.the-variants.{Ask, Reply, Cancel, Closed, Lost, End, Cut, Unknown}
+use Rattle.walk_turn.specs.declared.Event.the-variants.{Ask, Reply, Cancel, Gone, End, Cut, Unknown}
 
 -- "1 ask: link 1, number 8, publisher 1. 2 reply: publisher 1, number 8. 3 cancel: link 1, number 8. 4 closed: link
 -- 1. 5 lost: publisher 1": the length of a kind's body, and 0 for an unknown kind
@@ -33,9 +34,9 @@ bodyOf kind es =
     ((eqb kind 1, Ask (getD es 1 0) (frontNumber es) (getD es 10 0))
     ∷ (eqb kind 2, Reply (getD es 1 0) (publisherNumber es))
     ∷ (eqb kind 3, Cancel (getD es 1 0) (frontNumber es))
-    ∷ (eqb kind 4, Closed (getD es 1 0))
+    ∷ (eqb kind 4, Gone (P.Front (getD es 1 0)))
     ∷ [])
-    (Lost (getD es 1 0))
+    (Gone (P.Publisher (getD es 1 0)))
 
 -- what stands at the front of some bytes: their end, an unknown kind, a record cut off, or an event
 unfoldable pub eventOf : List ℕ → Event
@@ -52,8 +53,7 @@ abbrev pub recordSize : Event → ℕ
 recordSize (Ask l n p) = 11
 recordSize (Reply p n) = 10
 recordSize (Cancel l n) = 10
-recordSize (Closed l) = 2
-recordSize (Lost p) = 2
+recordSize (Gone peer) = 2
 recordSize End = 0
 recordSize Cut = 0
 recordSize Unknown = 0
@@ -64,8 +64,7 @@ abbrev pub waits : Event → Bool → Bool
 waits (Ask l n p) last = false
 waits (Reply p n) last = false
 waits (Cancel l n) last = false
-waits (Closed l) last = false
-waits (Lost p) last = false
+waits (Gone peer) last = false
 waits End last = true
 waits Cut last = not last
 waits Unknown last = false

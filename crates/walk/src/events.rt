@@ -1,5 +1,6 @@
 // The event format: a kind byte, then a body whose length the kind fixes.
 use inflight::FrontNumber;
+use inflight::Peer;
 use inflight::PublisherNumber;
 use walk_turn::Event;
 use wire::i64_at;
@@ -65,9 +66,9 @@ fn body(kind: u8, s: &[u8]) -> Event
         return Event::Cancel(place, front_number(s));
     }
     if kind == 4 {
-        return Event::Closed(place);
+        return Event::Gone(Peer::Front(place));
     }
-    Event::Lost(place)
+    Event::Gone(Peer::Publisher(place))
 }
 
 // What stands at the front of s.
@@ -96,8 +97,7 @@ pub(crate) fn record_size(e: Event) -> usize
         Event::Ask(_, _, _) => 11,
         Event::Reply(_, _) => 10,
         Event::Cancel(_, _) => 10,
-        Event::Closed(_) => 2,
-        Event::Lost(_) => 2,
+        Event::Gone(_) => 2,
         Event::End => 0,
         Event::Cut => 0,
         Event::Unknown => 0,
@@ -112,8 +112,7 @@ pub(crate) fn must_wait(e: Event, last: bool) -> bool
         Event::Ask(_, _, _) => false,
         Event::Reply(_, _) => false,
         Event::Cancel(_, _) => false,
-        Event::Closed(_) => false,
-        Event::Lost(_) => false,
+        Event::Gone(_) => false,
         Event::End => true,
         Event::Cut => !last,
         Event::Unknown => false,

@@ -1,23 +1,22 @@
 -- The text of a walk with no bound on its room, on a table; it is the table's run rendered, and the walk with room enough gives it.
 -- Assumes nothing.
-use mathlib.Core.Path.{_≡_, refl, sym, ap, _∙_, subst}
+use mathlib.Core.Path.{_≡_, refl, sym, ap}
 use Prim.Native.Nat.{ℕ, zero, suc, _+_, _-_, _≤_, _<_}
 use native.Mathlib.Omega.{arith}
 use mathlib.Core.Bool.{Bool, true, false}
 use mathlib.Core.List.{List, [], _∷_, _++_, append-nil, append-assoc}
-use borrow.Author.Tests.{lt-ltb, le-ltb, eq-eqb, ne-eqb, eqb-true, eqb-false}
+use borrow.Author.Tests.{le-ltb, eqb-false}
 use lib.Dec.{eqb, ltb}
 use lib.ListN.{length, drop, length-append, length-drop}
 use Rattle.wire.specs.Choice.{pick}
 use Rattle.inflight.specs.Calls.{Call, tableRun}
 use Rattle.inflight.specs.Tables.{Table}
-use Rattle.walk_turn.specs.Lines.{callLines, refusedLine}
-use Rattle.walk_turn.specs.Turn.{linesOf, afterEvent, lentSlice}
+use Rattle.walk_turn.specs.Lines.{refusedLine}
+use Rattle.walk_turn.specs.Turn.{linesOf, afterEvent}
 use Rattle.walk_turn.specs.declared.Event.{Event}
-use Rattle.walk_turn.specs.declared.Event.the-variants.{Ask, Reply, Cancel, Closed, Lost, End, Cut, Unknown}
+use Rattle.walk_turn.specs.declared.Event.the-variants.{Ask, Reply, Cancel, Gone, End, Cut, Unknown}
 use Rattle.walk.specs.Events.{eventOf, recordSize, waits}
-use Rattle.walk.specs.Walk.{Outcome, ends, after, walkFrom, walkOf}
-use Rattle.walk.proofs.EventLaws.{record-fits}
+use Rattle.walk.specs.Walk.{Outcome, ends, after, walkFrom}
 use Rattle.walk_claims.specs.ProgramText.{callBefore, callsFrom, faultBefore, faultFrom, rendered}
 
 -- ---- the full text
@@ -40,8 +39,7 @@ unfolding told rendered tableRun linesOf afterEvent
 full-is-at t (Ask l n p) cs fault rest h = rw (h, append-assoc)
 full-is-at t (Reply p n) cs fault rest h = rw (h, append-assoc)
 full-is-at t (Cancel l n) cs fault rest h = rw (h, append-assoc)
-full-is-at t (Closed l) cs fault rest h = rw (h, append-assoc)
-full-is-at t (Lost p) cs fault rest h = rw (h, append-assoc)
+full-is-at t (Gone peer) cs fault rest h = rw (h, append-assoc)
 full-is-at t End cs fault rest h = refl
 full-is-at t Cut cs fault rest h = append-nil (refusedLine 35)
 full-is-at t Unknown cs fault rest h = append-nil (refusedLine 35)

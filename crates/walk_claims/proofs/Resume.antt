@@ -1,11 +1,10 @@
 -- A walk over the first bytes, with any room, and then the rest: together the full text.
 -- Assumes nothing.
-use mathlib.Core.Path.{_≡_, refl, sym, ap, _∙_, subst}
+use mathlib.Core.Path.{_≡_, refl, sym, ap, _∙_}
 use Prim.Native.Nat.{ℕ, zero, suc, _+_, _-_, _≤_}
 use native.Mathlib.Omega.{arith}
-use mathlib.Core.Bool.{Bool, true, false, true≢false}
-use mathlib.Core.List.{List, [], _∷_, _++_, append-nil, append-assoc}
-use borrow.Author.Tests.{eqb-false}
+use mathlib.Core.Bool.{Bool, true, false}
+use mathlib.Core.List.{List, [], _++_, append-assoc}
 use lib.Dec.{eqb, ltb}
 use lib.ListN.{length, drop, length-append, length-drop}
 use lib.Seq.{drop-append-le, drop-drop}
@@ -13,11 +12,11 @@ use Rattle.wire.specs.Choice.{pick}
 use Rattle.inflight.specs.Tables.{Table}
 use Rattle.walk_turn.specs.Turn.{linesOf, afterEvent}
 use Rattle.walk_turn.specs.declared.Event.{Event}
-use Rattle.walk_turn.specs.declared.Event.the-variants.{Ask, Reply, Cancel, Closed, Lost, End, Cut, Unknown}
+use Rattle.walk_turn.specs.declared.Event.the-variants.{Ask, Reply, Cancel, Gone, End, Cut, Unknown}
 use Rattle.walk.specs.Events.{eventOf, recordSize, waits}
 use Rattle.walk.specs.Walk.{Outcome, ends, after, walkFrom}
 use Rattle.walk.proofs.EventLaws.{record-fits}
-use Rattle.walk_claims.proofs.FullText.{fullFrom, full-fuel, shorter}
+use Rattle.walk_claims.proofs.FullText.{fullFrom, full-fuel}
 use Rattle.walk_claims.proofs.SameEvent.{same-event}
 
 -- the full text from a table on
@@ -44,8 +43,7 @@ no-wait : (e : Event) (last : Bool) → waits e last ≡ false → waits e true 
 no-wait (Ask l n p) last h = refl
 no-wait (Reply p n) last h = refl
 no-wait (Cancel l n) last h = refl
-no-wait (Closed l) last h = refl
-no-wait (Lost p) last h = refl
+no-wait (Gone peer) last h = refl
 no-wait End last h = h
 no-wait Cut last h = refl
 no-wait Unknown last h = refl

@@ -1,21 +1,19 @@
 -- An event that stands whole in some bytes, or is of an unknown kind, stands the same at the front of more bytes.
 -- Assumes nothing.
 use mathlib.Core.Path.{_≡_, refl, sym, ap, _∙_}
-use Prim.Native.Nat.{ℕ, suc, _+_, _≤_, _<_}
+use Prim.Native.Nat.{ℕ, _+_, _≤_, _<_}
 use native.Mathlib.Omega.{arith}
 use mathlib.Core.Bool.{Bool, true, false, true≢false}
 use mathlib.Core.List.{List, [], _∷_, _++_, append-nil}
 use borrow.Author.Tests.{lt-leb, leb-false, ne-eqb}
 use lib.Dec.{eqb, leb}
-use lib.ListN.{length, getD, take, drop, length-append, length-drop, List·getD-append}
+use lib.ListN.{length, getD, drop, length-append, length-drop, List·getD-append}
 use lib.Seq.{take-append-le, drop-append-le}
-use mir.Syntax.{w64}
-use mir.Val.{toZ}
-use Rattle.wire.specs.Bytes.{le, part}
-use Rattle.wire.specs.Choice.{pick, first}
-use Rattle.walk_turn.specs.declared.Event.{Event}
-use Rattle.walk_turn.specs.declared.Event.the-variants.{Ask, Reply, Cancel, Closed, Lost, End, Cut, Unknown}
-use Rattle.walk.specs.Events.{bodySize, bodyOf, eventOf, recordSize, frontNumber, publisherNumber, waits}
+use Rattle.wire.specs.Bytes.{part}
+use Rattle.wire.specs.Choice.{first}
+use Rattle.inflight.specs.declared.Peer.the-variants as P
+use Rattle.walk_turn.specs.declared.Event.the-variants.{Ask, Reply, Cancel, Gone, Cut, Unknown}
+use Rattle.walk.specs.Events.{bodySize, bodyOf, eventOf, frontNumber, publisherNumber, waits}
 
 module _ (es more : List ℕ) where
   same-byte : (i : ℕ) → i < length es → getD (es ++ more) i 0 ≡ getD es i 0
@@ -38,16 +36,16 @@ module _ (es more : List ℕ) where
       ((a, Ask (getD (es ++ more) 1 0) (frontNumber (es ++ more)) (getD (es ++ more) 10 0))
       ∷ (b, Reply (getD (es ++ more) 1 0) (publisherNumber (es ++ more)))
       ∷ (c, Cancel (getD (es ++ more) 1 0) (frontNumber (es ++ more)))
-      ∷ (d, Closed (getD (es ++ more) 1 0))
+      ∷ (d, Gone (P.Front (getD (es ++ more) 1 0)))
       ∷ [])
-      (Lost (getD (es ++ more) 1 0))
+      (Gone (P.Publisher (getD (es ++ more) 1 0)))
       ≡ first
       ((a, Ask (getD es 1 0) (frontNumber es) (getD es 10 0))
       ∷ (b, Reply (getD es 1 0) (publisherNumber es))
       ∷ (c, Cancel (getD es 1 0) (frontNumber es))
-      ∷ (d, Closed (getD es 1 0))
+      ∷ (d, Gone (P.Front (getD es 1 0)))
       ∷ [])
-      (Lost (getD es 1 0))
+      (Gone (P.Publisher (getD es 1 0)))
   kinds-same true b c d e z h = rw (same-byte 1 (omega arith), same-front (omega arith), same-byte 10 (omega arith))
   kinds-same false true c d e z h = rw (same-byte 1 (omega arith), same-number (omega arith))
   kinds-same false false true d e z h = rw (same-byte 1 (omega arith), same-front (omega arith))

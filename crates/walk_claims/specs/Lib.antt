@@ -1,3 +1,4 @@
 -- The statements.
 pub mod ProgramText
 pub mod Bounds
+pub mod EventKinds

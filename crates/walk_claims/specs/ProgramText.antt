@@ -11,13 +11,13 @@ use lib.IntN.{pos}
 use lib.ListN.{length, drop, replicate}
 use Rattle.wire.specs.Choice.{pick}
 use Rattle.inflight.specs.Model.{empty}
-use Rattle.inflight.specs.Calls.{Call, Heard, ask, reply, cancel, closed, lost, modelRun}
+use Rattle.inflight.specs.Calls.{Call, Heard, ask, reply, cancel, gone, modelRun}
 use Rattle.inflight.specs.declared.PublisherNumber.{PublisherNumber}
 use Rattle.inflight.specs.Tables.{Table, Sized, freshOf}
 use Rattle.walk_turn.specs.Lines.{callLines, refusedLine}
 use Rattle.walk_turn.specs.Turn.{lentSlice}
 use Rattle.walk_turn.specs.declared.Event.{Event}
-use Rattle.walk_turn.specs.declared.Event.the-variants.{Ask, Reply, Cancel, Closed, Lost, End, Cut, Unknown}
+use Rattle.walk_turn.specs.declared.Event.the-variants.{Ask, Reply, Cancel, Gone, End, Cut, Unknown}
 use Rattle.walk.specs.Events.{eventOf, recordSize}
 use Rattle.walk.specs.Walk.{Outcome, walkOf}
 
@@ -28,8 +28,7 @@ abbrev pub callBefore : Event → List Call → List Call
 callBefore (Ask l n p) cs = ask l n p ∷ cs
 callBefore (Reply p n) cs = reply p n ∷ cs
 callBefore (Cancel l n) cs = cancel l n ∷ cs
-callBefore (Closed l) cs = closed l lentSlice ∷ cs
-callBefore (Lost p) cs = lost p lentSlice ∷ cs
+callBefore (Gone peer) cs = gone peer lentSlice ∷ cs
 callBefore End cs = []
 callBefore Cut cs = []
 callBefore Unknown cs = []
@@ -44,8 +43,7 @@ abbrev pub faultBefore : Event → Bool → Bool
 faultBefore (Ask l n p) b = b
 faultBefore (Reply p n) b = b
 faultBefore (Cancel l n) b = b
-faultBefore (Closed l) b = b
-faultBefore (Lost p) b = b
+faultBefore (Gone peer) b = b
 faultBefore End b = false
 faultBefore Cut b = true
 faultBefore Unknown b = true

@@ -6,11 +6,13 @@ use mathlib.Core.List.{List}
 use Prim.Native.Nat.{ℕ, _*_, _≤_}
 use native.Mathlib.Omega.{arith}
 use borrow.Author.Tests.{ltb-false}
-use lib.Dec.{leb, ltb}
+use lib.Dec.{ltb}
 use lib.IntN.{ℤ}
 use lib.ListN.{length}
 use lib.Seq.{sets}
-use Rattle.inflight.specs.Tables.{Table, mine, linked, leaving, dropOf, closedOf, lostOf}
+use Rattle.inflight.specs.Model.{noPeer}
+use Rattle.inflight.specs.Tables.{Table, leaving, slotsOf, otherAt, dropOf, goneOf}
+use Rattle.inflight.specs.declared.Peer.{Peer}
 use Rattle.walk_turn.specs.Lines.{countOf}
 use Rattle.walk_turn.specs.Turn.{Turned, turnOf, linesOf}
 use Rattle.walk_turn.specs.declared.Event.{Event}
@@ -29,29 +31,21 @@ turn-is {R} {r} {k} {d₁} table lines d e h =
     subst (λ (x : R). (turned (table r) k ≡ turned (table x) (length (lines x))) × (d₁ ≡ sets d 0 (lines x))) e (ap (turned (table r)) (h .0), h .1)
 
 -- a drop count has two numbers of the slice for each
-drop-count : (t : Table) (gone base : ℕ) (out : List ℤ) → 2 * countOf (dropOf t gone base out .answer) ≤ length out
+drop-count : (t : Table) (mask base : ℕ) (out : List ℤ) → 2 * countOf (dropOf t mask base out .answer) ≤ length out
 unfolding dropOf
-drop-count t gone base out = go (ltb (length out) (2 * length (leaving t gone))) refl
+drop-count t mask base out = go (ltb (length out) (2 * length (leaving t mask))) refl
   where
-    go : (b : Bool) → ltb (length out) (2 * length (leaving t gone)) ≡ b → 2 * countOf (dropOf t gone base out .answer) ≤ length out
+    go : (b : Bool) → ltb (length out) (2 * length (leaving t mask)) ≡ b → 2 * countOf (dropOf t mask base out .answer) ≤ length out
     go true e = rw e (omega arith)
     go false e = rw e (ltb-false _ _ e)
 
-pub closed-count : (t : Table) (l : ℕ) (out : List ℤ) → 2 * countOf (closedOf t l out .answer) ≤ length out
-unfolding closedOf
-closed-count t l out = go (leb 32 l) refl
+pub gone-count : (t : Table) (peer : Peer) (out : List ℤ) → 2 * countOf (goneOf t peer out .answer) ≤ length out
+unfolding goneOf
+gone-count t peer out = go (noPeer peer) refl
   where
-    go : (b : Bool) → leb 32 l ≡ b → 2 * countOf (closedOf t l out .answer) ≤ length out
+    go : (b : Bool) → noPeer peer ≡ b → 2 * countOf (goneOf t peer out .answer) ≤ length out
     go true e = rw e (omega arith)
-    go false e = rw e (drop-count t (linked t l) 64 out)
-
-pub lost-count : (t : Table) (p : ℕ) (out : List ℤ) → 2 * countOf (lostOf t p out .answer) ≤ length out
-unfolding lostOf
-lost-count t p out = go (leb 8 p) refl
-  where
-    go : (b : Bool) → leb 8 p ≡ b → 2 * countOf (lostOf t p out .answer) ≤ length out
-    go true e = rw e (omega arith)
-    go false e = rw e (drop-count t (mine t p) 0 out)
+    go false e = rw e (drop-count t (slotsOf (t .masks) (t .places) peer) (otherAt peer) out)
 
 -- the turn of an event that is known in other words
 pub event-is : {e f : Event} {r : Turned} {d₁ : List ℕ} (t : Table) (d : List ℕ) → f ≡ e → (r ≡ turnOf t e) × (d₁ ≡ sets d 0 (linesOf t e))

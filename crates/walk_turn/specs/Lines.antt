@@ -6,7 +6,9 @@ use lib.Dec.{ltb}
 use lib.IntN.{ℤ, pos, negsuc}
 use lib.ListN.{getD}
 use Rattle.wire.specs.Choice.{pick}
-use Rattle.inflight.specs.Calls.{Call, Heard, ask, reply, cancel, closed, lost, asked, replied, cancelled, dropped}
+use Rattle.inflight.specs.Calls.{Call, Heard, ask, reply, cancel, gone, asked, replied, cancelled, dropped}
+use Rattle.inflight.specs.declared.Peer.{Peer}
+use Rattle.inflight.specs.declared.Peer.the-variants as P
 use Rattle.inflight.specs.declared.AskAnswer.{AskAnswer}
 use Rattle.inflight.specs.declared.AskAnswer.the-variants as A
 use Rattle.inflight.specs.declared.ReplyAnswer.{ReplyAnswer}
@@ -97,13 +99,17 @@ abbrev pub countOf : DropAnswer → ℕ
 countOf (D.Count n) = n
 countOf (D.Refused k) = 0
 
--- the word of closed and lost
+-- the word of a front link that is gone, and of a publisher: "event kinds 4 and 5 print as before" (document 02, A4)
+abbrev pub goneWord : Peer → List ℕ
+goneWord (P.Front l) = closedWord
+goneWord (P.Publisher p) = lostWord
+
+-- the word of a call that frees many
 abbrev pub dropCallWord : Call → List ℕ
 dropCallWord (ask l n p) = []
 dropCallWord (reply p n) = []
 dropCallWord (cancel l n) = []
-dropCallWord (closed l out) = closedWord
-dropCallWord (lost p out) = lostWord
+dropCallWord (gone peer out) = goneWord peer
 
 -- the lines that tell what was heard of a call
 unfoldable pub callLines : Call → Heard → List ℕ

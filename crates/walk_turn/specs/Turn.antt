@@ -4,13 +4,13 @@ use Prim.Native.Nat.{ℕ}
 use mathlib.Core.List.{List}
 use lib.IntN.{ℤ, pos}
 use lib.ListN.{length, replicate}
-use Rattle.inflight.specs.Calls.{ask, reply, cancel, closed, lost, tableHeard, tableAfter}
+use Rattle.inflight.specs.Calls.{ask, reply, cancel, gone, tableHeard, tableAfter}
 use Rattle.inflight.specs.Tables.{Table}
 use Rattle.walk_turn.specs.Lines.{callLines, refusedLine}
 use Rattle.walk_turn.specs.declared.Event.{Event}
-use Rattle.walk_turn.specs.declared.Event.the-variants.{Ask, Reply, Cancel, Closed, Lost, End, Cut, Unknown}
+use Rattle.walk_turn.specs.declared.Event.the-variants.{Ask, Reply, Cancel, Gone, End, Cut, Unknown}
 
--- the slice that closed and lost are lent: two numbers for each of 64 requests
+-- the slice that gone is lent: two numbers for each of 64 requests
 abbrev pub lentSlice : List ℤ
 lentSlice = replicate 128 (pos 0)
 
@@ -19,8 +19,7 @@ unfoldable pub linesOf : Table → Event → List ℕ
 linesOf t (Ask l n p) = callLines (ask l n p) (tableHeard t (ask l n p))
 linesOf t (Reply p n) = callLines (reply p n) (tableHeard t (reply p n))
 linesOf t (Cancel l n) = callLines (cancel l n) (tableHeard t (cancel l n))
-linesOf t (Closed l) = callLines (closed l lentSlice) (tableHeard t (closed l lentSlice))
-linesOf t (Lost p) = callLines (lost p lentSlice) (tableHeard t (lost p lentSlice))
+linesOf t (Gone peer) = callLines (gone peer lentSlice) (tableHeard t (gone peer lentSlice))
 linesOf t End = refusedLine 35
 linesOf t Cut = refusedLine 35
 linesOf t Unknown = refusedLine 35
@@ -30,8 +29,7 @@ unfoldable pub afterEvent : Table → Event → Table
 afterEvent t (Ask l n p) = tableAfter t (ask l n p)
 afterEvent t (Reply p n) = tableAfter t (reply p n)
 afterEvent t (Cancel l n) = tableAfter t (cancel l n)
-afterEvent t (Closed l) = tableAfter t (closed l lentSlice)
-afterEvent t (Lost p) = tableAfter t (lost p lentSlice)
+afterEvent t (Gone peer) = tableAfter t (gone peer lentSlice)
 afterEvent t End = t
 afterEvent t Cut = t
 afterEvent t Unknown = t

@@ -7,6 +7,7 @@ mod lines;
 mod turns;
 
 use inflight::FrontNumber;
+use inflight::Peer;
 use inflight::PublisherNumber;
 pub use turns::turn;
 
@@ -15,8 +16,8 @@ pub enum Event {
     Ask(u8, FrontNumber, u8),
     Reply(u8, PublisherNumber),
     Cancel(u8, FrontNumber),
-    Closed(u8),
-    Lost(u8),
+    // Kind 4 of a front link, kind 5 of a publisher.
+    Gone(Peer),
     // No byte.
     End,
     // A record whose last byte is not there.

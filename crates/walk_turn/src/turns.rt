@@ -8,11 +8,11 @@ use inflight::AskAnswer;
 use inflight::CancelAnswer;
 use inflight::DropAnswer;
 use inflight::FrontNumber;
+use inflight::Peer;
 use inflight::PublisherNumber;
 use inflight::ReplyAnswer;
 use inflight_ask::ask;
-use inflight_drop::closed;
-use inflight_drop::lost;
+use inflight_drop::gone;
 use inflight_take::cancel;
 use inflight_take::reply;
 use refusal::EVENT_UNKNOWN_OR_CUT;
@@ -21,7 +21,7 @@ ghost use Prim.Native.Nat.{_≤_};
 ghost use lib.ListN.{length};
 ghost use lib.Seq.{sets};
 ghost use Rattle.inflight.specs.Tables.{tableOf};
-ghost use Rattle.walk_turn.specs.Lines.{askLine, replyLine, cancelLine, countOf, droppedLines, closedWord, lostWord};
+ghost use Rattle.walk_turn.specs.Lines.{askLine, replyLine, cancelLine, countOf, droppedLines, goneWord};
 ghost use Rattle.walk_turn.specs.Turn.{Turned, turnOf, linesOf};
 
 fn put_ask(text: &mut [u8], answer: AskAnswer) -> usize
@@ -72,6 +72,18 @@ fn put_dropped(text: &mut [u8], word: &[u8], answer: DropAnswer, ends: &[i64]) -
             put_drops(text, to, ends, n)
         }
         DropAnswer::Refused(no) => put_refused(text, no),
+    }
+}
+
+fn put_gone(text: &mut [u8], peer: Peer, answer: DropAnswer, ends: &[i64]) -> usize
+    requires { ⌜ countOf answer ≤ 64 ⌝ }
+    ensures { λ r. ⌜ (r ≡ length (droppedLines (goneWord peer) answer (now (ends .entry))))
+        × (now (text .exit) ≡ sets (now (text .entry)) 0
+        (droppedLines (goneWord peer) answer (now (ends .entry)))) ⌝ }
+{
+    match peer {
+        Peer::Front(_) => put_dropped(text, b"closed ", answer, ends),
+        Peer::Publisher(_) => put_dropped(text, b"lost ", answer, ends),
     }
 }
 
@@ -148,12 +160,12 @@ fn cancel_turn(
     put_cancel(text, answer)
 }
 
-fn closed_turn(
+fn gone_turn(
     masks: &mut [u64; 9],
     numbers: &[i64; 136],
     places: &[u8; 128],
     order: &mut [u8; 64],
-    link: u8,
+    peer: Peer,
     text: &mut [u8],
 ) -> usize
     ensures { λ r. ⌜ (_≡_ {A = Turned}
@@ -162,38 +174,14 @@ fn closed_turn(
           size = r;
         })
         (turnOf (tableOf (now (masks .entry)) (now (numbers .entry)) (now (places .entry)) (now (order .entry)))
-        (Event.Closed link)))
+        (Event.Gone peer)))
         × (now (text .exit) ≡ sets (now (text .entry)) 0
         (linesOf (tableOf (now (masks .entry)) (now (numbers .entry)) (now (places .entry)) (now (order .entry)))
-        (Event.Closed link))) ⌝ }
+        (Event.Gone peer))) ⌝ }
 {
     let mut ends = [0i64; 128];
-    let answer = closed(masks, numbers, places, order, link, &mut ends);
-    put_dropped(text, b"closed ", answer, &ends)
-}
-
-fn lost_turn(
-    masks: &mut [u64; 9],
-    numbers: &[i64; 136],
-    places: &[u8; 128],
-    order: &mut [u8; 64],
-    publisher: u8,
-    text: &mut [u8],
-) -> usize
-    ensures { λ r. ⌜ (_≡_ {A = Turned}
-        (record {
-          table = tableOf (now (masks .exit)) (now (numbers .entry)) (now (places .entry)) (now (order .exit));
-          size = r;
-        })
-        (turnOf (tableOf (now (masks .entry)) (now (numbers .entry)) (now (places .entry)) (now (order .entry)))
-        (Event.Lost publisher)))
-        × (now (text .exit) ≡ sets (now (text .entry)) 0
-        (linesOf (tableOf (now (masks .entry)) (now (numbers .entry)) (now (places .entry)) (now (order .entry)))
-        (Event.Lost publisher))) ⌝ }
-{
-    let mut ends = [0i64; 128];
-    let answer = lost(masks, numbers, places, order, publisher, &mut ends);
-    put_dropped(text, b"lost ", answer, &ends)
+    let answer = gone(masks, numbers, places, order, peer, &mut ends);
+    put_gone(text, peer, answer, &ends)
 }
 
 // The table after an event, and its lines at the front of text: their size is handed back.
@@ -220,8 +208,7 @@ pub fn turn(
         Event::Ask(l, n, p) => ask_turn(masks, numbers, places, order, l, n, p, text),
         Event::Reply(p, n) => reply_turn(masks, numbers, places, order, p, n, text),
         Event::Cancel(l, n) => cancel_turn(masks, numbers, places, order, l, n, text),
-        Event::Closed(l) => closed_turn(masks, numbers, places, order, l, text),
-        Event::Lost(p) => lost_turn(masks, numbers, places, order, p, text),
+        Event::Gone(peer) => gone_turn(masks, numbers, places, order, peer, text),
         Event::End => put_refused(text, EVENT_UNKNOWN_OR_CUT),
         Event::Cut => put_refused(text, EVENT_UNKNOWN_OR_CUT),
         Event::Unknown => put_refused(text, EVENT_UNKNOWN_OR_CUT),

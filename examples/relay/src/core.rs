@@ -194,10 +194,7 @@ impl Core {
     /// A connection has ended, from whichever side.
     pub(crate) fn gone(&mut self, peer: Peer) {
         if self.slot(peer).and_then(Option::take).is_some() {
-            match peer {
-                Peer::Front(link) => self.front_closed(link),
-                Peer::Publisher(publisher) => self.publisher_lost(publisher),
-            }
+            self.end_requests(peer);
         }
     }
 }

@@ -1,16 +1,8 @@
 //! What the core is told, and what it wants done.
 
+pub use relay::Peer;
 use relay::{Card, NetPid};
 use std::fmt;
-
-/// The other end of a connection.
-#[derive(Clone, Copy, Debug, PartialEq, Eq, Hash)]
-pub enum Peer {
-    /// A front end; we are its server. Links are 0 to 31.
-    Front(u8),
-    /// A publisher, 0 to 7; we are its client.
-    Publisher(u8),
-}
 
 /// What a new connection needs for its opening.
 pub struct Opening {
@@ -67,14 +59,5 @@ impl fmt::Display for Warning {
             }
             Warning::BadPoint => "its Nonce has a point that shares no secret",
         })
-    }
-}
-
-impl fmt::Display for Peer {
-    fn fmt(&self, f: &mut fmt::Formatter) -> fmt::Result {
-        match self {
-            Peer::Front(link) => write!(f, "front end {link}"),
-            Peer::Publisher(publisher) => write!(f, "publisher {publisher}"),
-        }
     }
 }

@@ -3,7 +3,9 @@
 
 use crate::core::Core;
 use crate::event::Peer;
-use relay::{Answer, FrontNumber, Invoke, Message, PublisherNumber, Refusal, ToSend, ALL_ENDS};
+use relay::{
+    Answer, FrontNumber, Invoke, Message, OtherEnds, PublisherNumber, Refusal, ToSend, ALL_ENDS,
+};
 
 /// The publisher of a request: its actor modulo 8, or 0 without an actor.
 /// (Document 01 leaves routing to the caller; this is the example's rule.)
@@ -96,27 +98,26 @@ impl Core {
         }
     }
 
-    /// All requests of a front link that closed are cancelled.
-    pub(crate) fn front_closed(&mut self, link: u8) {
+    /// All requests of a peer that is gone: those of a front end are cancelled,
+    /// those at a publisher end with an error.
+    pub(crate) fn end_requests(&mut self, peer: Peer) {
         let mut ends = [0; ALL_ENDS];
-        let Ok(ends) = self.table.closed(link, &mut ends) else {
-            return;
-        };
-        for (publisher, number) in ends {
-            self.counts.closed += 1;
-            self.cancel_at(publisher, number);
-        }
-    }
-
-    /// All requests of a lost publisher end with an error.
-    pub(crate) fn publisher_lost(&mut self, publisher: u8) {
-        let mut ends = [0; ALL_ENDS];
-        let Ok(ends) = self.table.lost(publisher, &mut ends) else {
-            return;
-        };
-        for (link, front) in ends {
-            self.counts.lost += 1;
-            self.refuse(link, front, Refusal::LINK_CLOSED);
+        match self.table.gone(peer, &mut ends) {
+            Ok(OtherEnds::Publishers(ends)) => {
+                for (publisher, number) in ends {
+                    self.counts.closed += 1;
+                    self.cancel_at(publisher, number);
+                }
+            }
+            Ok(OtherEnds::Fronts(ends)) => {
+                for (link, front) in ends {
+                    self.counts.lost += 1;
+                    self.refuse(link, front, Refusal::LINK_CLOSED);
+                }
+            }
+            // No peer out of range has had a connection, and the slice is long
+            // enough for all.
+            Err(_) => {}
         }
     }
 

@@ -32,8 +32,8 @@ const REFUSALS: [(&str, &[u8]); 17] = [
     ("ask", &[30, 12, 31, 32, 33]),
     ("reply", &[30, 12, 34]),
     ("cancel", &[30, 12, 34]),
-    ("closed", &[30, 16]),
-    ("lost", &[30, 16]),
+    ("gone front end", &[30, 16]),
+    ("gone publisher", &[30, 16]),
 ];
 
 impl Counts {

@@ -1,15 +1,15 @@
 //! Random lists of calls on a table, with few links and numbers, so that they
-//! meet, or with 48 to 64 requests in flight; drops into slices that are too
-//! short now and then. After each call the table's members are held against one
-//! another too.
+//! meet, or with 48 to 64 requests in flight; gone peers of either side, with
+//! slices that are too short now and then. After each call the table's members
+//! are held against one another too.
 
 use crate::compare::{same, Compared};
 use crate::counts::Counts;
-use crate::draw::{array, coin, one_in};
+use crate::draw::{array, coin, one_in, up_to};
 use reference::generator::Generator;
 use reference::refusal::Refusal;
-use reference::table::{End, Request, Table};
-use relay::{raw, FrontNumber, PublisherNumber};
+use reference::table::{End, Request, Side, Table};
+use relay::{raw, FrontNumber, Peer, PublisherNumber};
 use std::collections::HashMap;
 
 /// How wide a list draws, and what it does how often.
@@ -170,12 +170,7 @@ impl Both {
             let (link, front) = self.cancel_of(g, (link, front));
             self.cancel(link, front, counts)
         } else if roll < replies + cancels + drops {
-            let room = g.pick(&[0, 1, 3, 4, 8, 31, 32, 128]);
-            if coin(g) {
-                self.closed(link, room, counts)
-            } else {
-                self.lost(publisher, room, counts)
-            }
+            self.any_gone(g, (link, publisher), counts)
         } else {
             self.ask(link, front, publisher, counts)
         }
@@ -253,28 +248,63 @@ impl Both {
         self.same_state(ours.is_err().then_some(before), call)
     }
 
-    fn closed(&mut self, link: u8, room: usize, counts: &mut Counts) -> Compared {
-        let (mut our_out, mut out) = ([-7; 130], [-7; 130]);
-        let before = *self.ours.raw();
-        let ours = self.ours.closed(link, &mut our_out[..room]);
-        let ours = ours.map(|ends| ends.len()).map_err(|r| r.number());
-        let second = self.second.closed(link, &mut out[..room]).map_err(number);
-        counts.add("closed", second.map(some));
-        let call = || format!("closed {link}, room {room}");
-        same("a closed link", call, (ours, our_out), (second, out))?;
-        self.same_state(ours.is_err().then_some(before), call)
+    /// A peer of either side, and now and then that of the same number on the
+    /// other side behind it, which may be out of range there.
+    fn any_gone(&mut self, g: &mut Generator, drawn: (u8, u8), counts: &mut Counts) -> Compared {
+        let (link, publisher) = drawn;
+        let side = g.pick(&Side::BOTH);
+        let number = match side {
+            _ if one_in(g, 10) => g.pick(&[7, 8, 31, 32, 255]),
+            Side::Front => link,
+            Side::Publisher => publisher,
+        };
+        let room = self.room(g, side, number, counts);
+        self.gone(side, number, room, counts)?;
+        if one_in(g, 4) {
+            let side = side.other();
+            let room = self.room(g, side, number, counts);
+            self.gone(side, number, room, counts)?;
+        }
+        Ok(())
     }
 
-    fn lost(&mut self, publisher: u8, room: usize, counts: &mut Counts) -> Compared {
+    /// A room for the ends of a peer's requests: enough, or not.
+    fn room(&self, g: &mut Generator, side: Side, number: u8, counts: &mut Counts) -> usize {
+        let is_its = |request: &&Request| match side {
+            Side::Front => request.front.0 == number,
+            Side::Publisher => request.publisher.0 == number,
+        };
+        let needed = 2 * self.second.in_flight().filter(is_its).count();
+        let less = up_to(g, needed);
+        let odd = 2 * up_to(g, 64) + 1;
+        let (kind, room) = g.pick(&[
+            ("just enough", needed),
+            ("one less", needed.saturating_sub(1)),
+            ("one more", needed + 1),
+            ("less", less),
+            ("odd", odd),
+            ("0", 0),
+            ("128", 128),
+            ("130", 130),
+        ]);
+        counts.add("room for ends", Ok(kind));
+        room
+    }
+
+    fn gone(&mut self, side: Side, number_: u8, room: usize, counts: &mut Counts) -> Compared {
         let (mut our_out, mut out) = ([-7; 130], [-7; 130]);
         let before = *self.ours.raw();
-        let ours = self.ours.lost(publisher, &mut our_out[..room]);
+        let (name, peer) = match side {
+            Side::Front => ("gone front end", Peer::Front(number_)),
+            Side::Publisher => ("gone publisher", Peer::Publisher(number_)),
+        };
+        let ours = self.ours.gone(peer, &mut our_out[..room]);
         let ours = ours.map(|ends| ends.len()).map_err(|r| r.number());
-        let second = self.second.lost(publisher, &mut out[..room]);
+        let second = self.second.gone(side, number_, &mut out[..room]);
         let second = second.map_err(number);
-        counts.add("lost", second.map(some));
-        let call = || format!("lost {publisher}, room {room}");
-        same("a lost publisher", call, (ours, our_out), (second, out))?;
+        counts.add(name, second.map(some));
+        let call = || format!("gone {peer}, room {room}");
+        same("a gone peer", call, (ours, our_out), (second, out))?;
         self.same_state(ours.is_err().then_some(before), call)
     }
 
@@ -311,7 +341,7 @@ impl Both {
     /// All publishers are lost, and each is asked once more.
     fn end(&mut self, counts: &mut Counts) -> Compared {
         for publisher in 0..8 {
-            self.lost(publisher, 32, counts)?;
+            self.gone(Side::Publisher, publisher, 32, counts)?;
             self.ask(publisher, 1, publisher, counts)?;
         }
         Ok(())

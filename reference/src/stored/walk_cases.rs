@@ -5,12 +5,13 @@
 //! m bytes of events. It gives the line `run N`, then the lines of the walk
 //! over the events, or only `no 30` if no table starts at N.
 
+use super::walk_gone;
 use super::walk_scripts as scripts;
 use super::walk_scripts::Script;
 use super::walk_slots;
 use crate::event::Event;
 use crate::numbers::{read_i64, read_u32};
-use crate::table::{Table, ROOM};
+use crate::table::{Side, Table, ROOM};
 use crate::traffic::{Profile, Traffic, CROWDED, MIXED, ROUGH};
 use crate::walk::{walk, write_refusal};
 
@@ -46,6 +47,8 @@ pub fn input() -> Vec<u8> {
     random_runs(&mut runs);
     runs.push(-5, scripts::example());
     walk_slots::push(&mut runs);
+    runs.push(-5, scripts::example());
+    walk_gone::push(&mut runs);
     // The last run is one that is skipped, so that its end is the input's.
     runs.push(-5, scripts::example());
     runs.bytes
@@ -60,8 +63,8 @@ fn bad_events(runs: &mut Runs) {
         Event::Ask(1, 2, 3),
         Event::Reply(0, 7),
         Event::Cancel(3, 77),
-        Event::Closed(3),
-        Event::Lost(0),
+        Event::Gone(Side::Front, 3),
+        Event::Gone(Side::Publisher, 0),
     ] {
         let whole = Script::default().then(event).bytes.len();
         for length in 1..whole {
@@ -105,7 +108,13 @@ impl Runs {
     }
 }
 
-pub fn output(mut runs: &[u8]) -> Vec<u8> {
+pub fn output(runs: &[u8]) -> Vec<u8> {
+    output_by(runs, walk_run)
+}
+
+/// The lines of the runs, those of each by `walk_run`: it gets the run's first
+/// number and its events.
+pub fn output_by(mut runs: &[u8], mut walk_run: impl FnMut(i64, &[u8], &mut Vec<u8>)) -> Vec<u8> {
     let mut lines = Vec::new();
     while !runs.is_empty() {
         let first = read_i64(runs, 0);
@@ -131,11 +140,28 @@ mod tests {
     use super::*;
     use crate::checksum::CRC32;
 
-    /// What was stored before the table had slots and masks: size and CRC-32
-    /// of input and output, and the lines.
-    const OLD_INPUT: (usize, u32) = (218_362, 0x466A_30A0);
-    const OLD_OUTPUT: (usize, u32) = (274_858, 0x5417_D2F6);
-    const OLD_LINES: usize = 25_613;
+    /// What was stored at some time: size and CRC-32 of input and output, and
+    /// the output's lines.
+    struct Stored {
+        input: (usize, u32),
+        output: (usize, u32),
+        lines: usize,
+    }
+
+    /// Before the table had slots and masks, and before one call stood for
+    /// both sides of a gone peer (document 02, A12 and A4).
+    const OLD: [Stored; 2] = [
+        Stored {
+            input: (218_362, 0x466A_30A0),
+            output: (274_858, 0x5417_D2F6),
+            lines: 25_613,
+        },
+        Stored {
+            input: (338_511, 0xC525_CFD8),
+            output: (454_852, 0x6F30_63F6),
+            lines: 43_487,
+        },
+    ];
 
     const EXAMPLE: &str = "ask 1\nno 31\nask 2\nreply 4 77\nno 34\ncancel 0 1\n\
                            ask 3\nno 12\nlost 1\ndrop 3 77\nclosed 0\n";
@@ -161,24 +187,37 @@ mod tests {
         assert!(count(&format!("ask {TOP}")) > 0);
     }
 
-    #[test]
-    fn the_old_runs_stay_in_front() {
-        let (input, output) = (input(), output(&input()));
-        for (bytes, (size, sum)) in [(&input, OLD_INPUT), (&output, OLD_OUTPUT)] {
-            assert_eq!(CRC32.of(&bytes[..size]), sum);
-        }
-        let (old, new) = output.split_at(OLD_OUTPUT.0);
-        let lines = |text: &[u8]| text.iter().filter(|&&byte| byte == b'\n').count();
-        assert_eq!(lines(old), OLD_LINES);
-        assert!(new.starts_with(b"run 1\n"));
-        // No changed rule: the old input alone gives the old output.
-        assert!(super::output(&input[..OLD_INPUT.0]) == old);
-        assert!(input.len() - OLD_INPUT.0 < 121_000, "{}", input.len());
-        assert!(lines(new) < 30_000, "{}", lines(new));
+    fn lines(text: &[u8]) -> usize {
+        text.iter().filter(|&&byte| byte == b'\n').count()
     }
 
     #[test]
-    fn within_the_agreed_size() {
+    fn the_old_runs_stay_in_front() {
+        let (input, output) = (input(), output(&input()));
+        for old in &OLD {
+            for (bytes, (size, sum)) in [(&input, old.input), (&output, old.output)] {
+                assert_eq!(CRC32.of(&bytes[..size]), sum);
+            }
+            let (before, after) = output.split_at(old.output.0);
+            assert_eq!(lines(before), old.lines);
+            assert!(after.starts_with(b"run 1\n"));
+            // No changed rule: the old input alone gives the old output.
+            assert!(super::output(&input[..old.input.0]) == before);
+        }
+    }
+
+    #[test]
+    fn what_was_added_is_within_the_agreed_size() {
+        let (input, output) = (input(), output(&input()));
+        let [.., newest] = &OLD;
+        let bytes = input.len() - newest.input.0;
+        assert!(bytes <= 40_000, "{bytes}");
+        let lines = lines(&output) - newest.lines;
+        assert!(lines <= 8_000, "{lines}");
+    }
+
+    #[test]
+    fn each_run_is_within_the_agreed_size() {
         let input = input();
         let mut rest = &input[..];
         while !rest.is_empty() {

@@ -3,7 +3,7 @@
 //! reads, and what one read brought takes several writes.
 
 use crate::event::Event;
-use crate::table::{Table, ROOM};
+use crate::table::{Side, Table, ROOM};
 use crate::traffic::{Profile, Traffic, MIXED, ROUGH};
 use crate::walk::walk;
 
@@ -16,8 +16,8 @@ pub fn input() -> Vec<u8> {
     events.random(200, MIXED, 2_000);
     // Two bytes in, nine out: now the text does.
     for turn in 0..10_000u32 {
-        events.push(Event::Closed((turn % 32) as u8));
-        events.push(Event::Lost((turn % 8) as u8));
+        events.push(Event::Gone(Side::Front, (turn % 32) as u8));
+        events.push(Event::Gone(Side::Publisher, (turn % 8) as u8));
     }
     events.random(201, ROUGH, 1_000);
     for round in 0..60 {
@@ -72,12 +72,12 @@ impl Events {
                 self.push(Event::Ask(publisher, long, publisher));
             }
         }
-        for place in 0..8 {
-            self.push(if round % 2 == 0 {
-                Event::Lost(place)
-            } else {
-                Event::Closed(place)
-            });
+        let side = match round % 2 {
+            0 => Side::Publisher,
+            _ => Side::Front,
+        };
+        for number in 0..8 {
+            self.push(Event::Gone(side, number));
         }
     }
 }

@@ -3,6 +3,7 @@
 
 use crate::event::Event;
 use crate::generator::Generator;
+use crate::table::Side;
 
 #[derive(Default)]
 pub struct Script {
@@ -28,11 +29,11 @@ impl Script {
     }
 
     fn closed(self, link: u8) -> Script {
-        self.then(Event::Closed(link))
+        self.then(Event::Gone(Side::Front, link))
     }
 
     fn lost(self, publisher: u8) -> Script {
-        self.then(Event::Lost(publisher))
+        self.then(Event::Gone(Side::Publisher, publisher))
     }
 
     /// Asks for `publisher` with the front numbers given.
@@ -199,7 +200,7 @@ pub fn late(first: i64) -> Script {
     })
 }
 
-/// Closed and lost with many and with no requests; the order of acceptance
+/// Gone peers with many and with no requests; the order of acceptance
 /// where freed room was used again.
 pub fn drops(first: i64) -> Script {
     let mut generator = Generator::new(17);

@@ -6,7 +6,6 @@
 mod edges;
 mod full;
 mod order;
-mod play;
 mod random;
 mod same;
 mod stale;
@@ -14,7 +13,7 @@ mod stale;
 mod tests;
 
 use super::walk_cases::Runs;
-use play::Play;
+use super::walk_play::push_case;
 
 const TOP: i64 = i64::MAX;
 
@@ -33,13 +32,4 @@ pub fn push(runs: &mut Runs) {
         push_case(runs, first, case);
     }
     random::push(runs);
-}
-
-/// What a run is about, and the first number it is stored with.
-type Case = (i64, fn(&mut Play));
-
-fn push_case(runs: &mut Runs, first: i64, case: impl FnOnce(&mut Play)) {
-    let mut play = Play::new(first);
-    case(&mut play);
-    runs.push(first, play.script);
 }

@@ -1,10 +1,11 @@
 //! The book of document 01, word for word: a plain list of entries, searched
 //! from the front. Slow and obvious; the tests hold the table against it.
 
-use super::End;
+use super::{End, Side};
 use crate::event::{Answer, Event};
 use crate::refusal::Refusal;
 
+#[derive(Clone, Copy)]
 pub struct Entry {
     pub link: u8,
     pub front_number: i64,
@@ -12,6 +13,7 @@ pub struct Entry {
     pub publisher_number: i64,
 }
 
+#[derive(Clone)]
 pub struct Book {
     /// In the order of acceptance.
     pub entries: Vec<Entry>,
@@ -38,8 +40,10 @@ impl Book {
             }
             Event::Reply(publisher, number) => self.reply(publisher, number).map(Answer::Reply),
             Event::Cancel(link, number) => self.cancel(link, number).map(Answer::Cancel),
-            Event::Closed(link) => self.closed(link, ends).map(Answer::Closed),
-            Event::Lost(publisher) => self.lost(publisher, ends).map(Answer::Lost),
+            Event::Gone(side, number) => {
+                let count = self.gone(side, number, ends);
+                count.map(|count| Answer::Gone(side, count))
+            }
         }
     }
 
@@ -120,37 +124,33 @@ impl Book {
         Ok((entry.publisher, entry.publisher_number))
     }
 
-    fn closed(&mut self, link: u8, ends: &mut [i64]) -> Result<usize, Refusal> {
-        if link > 31 {
+    fn gone(&mut self, side: Side, number: u8, ends: &mut [i64]) -> Result<usize, Refusal> {
+        let last = match side {
+            Side::Front => 31,
+            Side::Publisher => 7,
+        };
+        if number > last {
             return Err(Refusal::OutOfRange);
         }
-        let of_link = self.entries.iter().filter(|entry| entry.link == link);
-        let other_ends: Vec<i64> = of_link
-            .flat_map(|entry| [i64::from(entry.publisher), entry.publisher_number])
+        let struck = |entry: &&Entry| match side {
+            Side::Front => entry.link == number,
+            Side::Publisher => entry.publisher == number,
+        };
+        let other_end = |entry: &Entry| match side {
+            Side::Front => [i64::from(entry.publisher), entry.publisher_number],
+            Side::Publisher => [i64::from(entry.link), entry.front_number],
+        };
+        let list: Vec<i64> = self
+            .entries
+            .iter()
+            .filter(struck)
+            .flat_map(other_end)
             .collect();
-        hand_out(&other_ends, ends)?;
-        self.entries.retain(|entry| entry.link != link);
-        Ok(other_ends.len() / 2)
-    }
-
-    fn lost(&mut self, publisher: u8, ends: &mut [i64]) -> Result<usize, Refusal> {
-        if publisher > 7 {
-            return Err(Refusal::OutOfRange);
+        if ends.len() < list.len() {
+            return Err(Refusal::BufferTooSmall);
         }
-        let of_publisher = self.entries.iter().filter(|e| e.publisher == publisher);
-        let other_ends: Vec<i64> = of_publisher
-            .flat_map(|entry| [i64::from(entry.link), entry.front_number])
-            .collect();
-        hand_out(&other_ends, ends)?;
-        self.entries.retain(|entry| entry.publisher != publisher);
-        Ok(other_ends.len() / 2)
+        ends[..list.len()].copy_from_slice(&list);
+        self.entries.retain(|entry| !struck(&entry));
+        Ok(list.len() / 2)
     }
-}
-
-fn hand_out(other_ends: &[i64], ends: &mut [i64]) -> Result<(), Refusal> {
-    if ends.len() < other_ends.len() {
-        return Err(Refusal::BufferTooSmall);
-    }
-    ends[..other_ends.len()].copy_from_slice(other_ends);
-    Ok(())
 }

@@ -1,3 +1,5 @@
+mod gone;
+
 use super::book::Book;
 use super::*;
 use crate::event::Event;
@@ -74,33 +76,6 @@ fn the_order_of_refusals() {
     assert_eq!(table.cancel(32, 0), Err(Refusal::OutOfRange));
     assert_eq!(table.cancel(31, 0), Err(Refusal::QueryNumberZero));
     assert_eq!(table.cancel(31, 1), Err(Refusal::NotInFlight));
-    assert_eq!(table.closed(32, &mut []), Err(Refusal::OutOfRange));
-    assert_eq!(table.lost(8, &mut []), Err(Refusal::OutOfRange));
-}
-
-#[test]
-fn a_slice_too_small_changes_nothing() {
-    let mut table = with_loads([3, 0, 0, 0, 0, 0, 0, 0]);
-    let mut ends = [-9; 5];
-    assert_eq!(table.lost(0, &mut ends), Err(Refusal::BufferTooSmall));
-    assert_eq!(table.closed(0, &mut ends), Err(Refusal::BufferTooSmall));
-    assert_eq!(ends, [-9; 5]);
-    let mut ends = [-9; 7];
-    assert_eq!(table.closed(0, &mut ends), Ok(3));
-    assert_eq!(ends, [0, 1, 0, 2, 0, 3, -9]);
-    assert_eq!(table.lost(0, &mut []), Ok(0));
-}
-
-#[test]
-fn oldest_accepted_first_though_slots_are_used_again() {
-    let mut table = with_loads([4, 0, 0, 0, 0, 0, 0, 0]);
-    assert_eq!(table.cancel(0, 1), Ok((0, 1)));
-    assert_eq!(table.reply(0, 3), Ok((0, 3)));
-    assert_eq!(table.ask(0, -8, 5), Ok(1));
-    assert_eq!(table.ask(0, -9, 0), Ok(5));
-    let mut ends = [0; 8];
-    assert_eq!(table.closed(0, &mut ends), Ok(4));
-    assert_eq!(ends, [0, 2, 0, 4, 5, 1, 0, 5]);
 }
 
 #[test]
@@ -130,8 +105,19 @@ fn turn_numbering(generator: &mut Generator, table: &mut Table, book: &mut Book)
     book.last[usize::from(publisher)] = Some(last);
 }
 
-/// Runs both on the same random calls; compares every answer, every lent
-/// slice and every load.
+/// One call on both, each lent a slice with the same content; compares the
+/// answers, the slices and the loads.
+fn call_both(table: &mut Table, book: &mut Book, event: Event, lent: &[i64]) {
+    let (mut ours, mut theirs) = (lent.to_vec(), lent.to_vec());
+    let answer = event.call(table, &mut ours);
+    assert_eq!(answer, book.call(event, &mut theirs), "{event:?}");
+    assert_eq!(ours, theirs, "{event:?}");
+    let loads: [usize; 8] = std::array::from_fn(|p| book.load(p as u8));
+    assert_eq!(table.loads, loads, "{event:?}");
+    assert_eq!(table.count(), book.entries.len());
+}
+
+/// Runs both on the same random calls.
 fn compare(seed: u64, first: i64, profile: Profile, calls: u32) {
     let mut generator = Generator::new(seed);
     let mut traffic = Traffic::new(seed, profile);
@@ -142,14 +128,8 @@ fn compare(seed: u64, first: i64, profile: Profile, calls: u32) {
         }
         let event = traffic.event(&table);
         let length = generator.pick(&[0, 1, 2, 9, 31, 32, 128, 130]);
-        let mut ours: Vec<i64> = (0..length).map(|_| generator.draw() as i64).collect();
-        let mut theirs = ours.clone();
-        let answer = event.call(&mut table, &mut ours);
-        assert_eq!(answer, book.call(event, &mut theirs), "{event:?}");
-        assert_eq!(ours, theirs, "{event:?}");
-        let loads: [usize; 8] = std::array::from_fn(|p| book.load(p as u8));
-        assert_eq!(table.loads, loads, "{event:?}");
-        assert_eq!(table.count(), book.entries.len());
+        let lent: Vec<i64> = (0..length).map(|_| generator.draw() as i64).collect();
+        call_both(&mut table, &mut book, event, &lent);
     }
 }
 
@@ -175,15 +155,12 @@ fn agrees_with_the_book_on_blind_calls() {
         let number = generator.below(12) as i64 - 4;
         let last = book.last.get(usize::from(publisher)).copied().flatten();
         let event = match generator.below(40) {
-            0 => Event::Closed(link),
-            1 => Event::Lost(publisher),
+            0 => Event::Gone(Side::Front, link),
+            1 => Event::Gone(Side::Publisher, publisher),
             2..=9 => Event::Cancel(link, number),
             10..=19 => Event::Reply(publisher, last.unwrap_or(8) - number),
             _ => Event::Ask(link, number, publisher),
         };
-        let (mut ours, mut theirs) = ([7; 20], [7; 20]);
-        let answer = event.call(&mut table, &mut ours);
-        assert_eq!(answer, book.call(event, &mut theirs), "{event:?}");
-        assert_eq!(ours, theirs, "{event:?}");
+        call_both(&mut table, &mut book, event, &[7; 20]);
     }
 }

@@ -75,21 +75,13 @@ extern "C" {
         link: u8,
         number: FrontNumber,
     ) -> Cancelled;
-    pub fn relay_closed_lent(
+    pub fn relay_gone_lent(
         masks: *mut [u64; 9],
         numbers: *const [i64; 136],
         places: *const [u8; 128],
         order: *mut [u8; 64],
-        link: u8,
-        out: *mut i64,
-        n: usize,
-    ) -> Dropped;
-    pub fn relay_lost_lent(
-        masks: *mut [u64; 9],
-        numbers: *const [i64; 136],
-        places: *const [u8; 128],
-        order: *mut [u8; 64],
-        publisher: u8,
+        publisher: bool,
+        number: u8,
         out: *mut i64,
         n: usize,
     ) -> Dropped;
@@ -146,30 +138,16 @@ pub fn relay_cancel(t: &mut Table, link: u8, number: FrontNumber) -> Cancelled {
     }
 }
 
-pub fn relay_closed(t: &mut Table, link: u8, out: &mut [i64]) -> Dropped {
+pub fn relay_gone(t: &mut Table, publisher: bool, number: u8, out: &mut [i64]) -> Dropped {
     // SAFETY: the arrays are borrowed, each once; the pointer and length are a slice's.
     unsafe {
-        relay_closed_lent(
-            &mut t.masks,
-            &t.numbers,
-            &t.places,
-            &mut t.order,
-            link,
-            out.as_mut_ptr(),
-            out.len(),
-        )
-    }
-}
-
-pub fn relay_lost(t: &mut Table, publisher: u8, out: &mut [i64]) -> Dropped {
-    // SAFETY: the arrays are borrowed, each once; the pointer and length are a slice's.
-    unsafe {
-        relay_lost_lent(
+        relay_gone_lent(
             &mut t.masks,
             &t.numbers,
             &t.places,
             &mut t.order,
             publisher,
+            number,
             out.as_mut_ptr(),
             out.len(),
         )

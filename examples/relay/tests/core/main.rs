@@ -3,6 +3,7 @@
 mod cipher;
 mod cipher_faults;
 mod connections;
+mod gone;
 #[path = "../no_timeout/mod.rs"]
 mod no_timeout;
 #[path = "../other_end/mod.rs"]

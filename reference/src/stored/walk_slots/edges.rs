@@ -1,8 +1,8 @@
 //! The ends of the ranges, zero numbers, calls to which two rows of the
 //! refusals apply, and publisher numbers that go past the largest.
 
-use super::play::{one_by, Play};
-use super::{Case, TOP};
+use super::TOP;
+use crate::stored::walk_play::{one_by, Case, Play};
 use crate::stored::walk_scripts::nth;
 
 pub const CASES: &[Case] = &[

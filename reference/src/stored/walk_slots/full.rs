@@ -1,8 +1,8 @@
 //! The full table, and loads and room after frees. A load counts as at least
 //! 4 of the 64, so the table is full only when every load is 4 or more.
 
-use super::play::{one_by, Play};
-use super::{Case, TOP};
+use super::TOP;
+use crate::stored::walk_play::{one_by, Case, Play};
 
 pub const LOADS: [[usize; 8]; 4] = [
     [8, 8, 8, 8, 8, 8, 8, 8],

@@ -1,9 +1,9 @@
-//! Closed and lost list by age, though the slots say something else; and every
-//! single place of the table freed.
+//! A gone peer's requests are listed by age, though the slots say something
+//! else; and every single place of the table freed.
 
-use super::play::{one_by, Entry, Play, WAYS};
-use super::{Case, TOP};
+use super::TOP;
 use crate::generator::Generator;
+use crate::stored::walk_play::{one_by, Case, Entry, Play, WAYS};
 
 pub const CASES: &[Case] = &[
     (1, newest_in_the_first_slot),

@@ -1,8 +1,8 @@
 //! A front number in flight at the same link is refused whatever slot holds
 //! it, and is free again after each of the four ways.
 
-use super::play::{Play, WAYS};
-use super::{Case, TOP};
+use super::TOP;
+use crate::stored::walk_play::{Case, Play, WAYS};
 
 pub const CASES: &[Case] = &[
     (1, at_every_publisher),

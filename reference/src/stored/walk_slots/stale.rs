@@ -1,8 +1,8 @@
 //! What a freed slot still holds is not found: neither its numbers nor its
 //! place in a publisher's mask, before and after the slot is used again.
 
-use super::play::{one_by, Entry, Play, Way, WAYS};
-use super::{Case, TOP};
+use super::TOP;
+use crate::stored::walk_play::{one_by, Case, Play, Way, WAYS};
 
 pub const CASES: &[Case] = &[
     (TOP - 5, twice),
@@ -12,11 +12,6 @@ pub const CASES: &[Case] = &[
     (7, the_other_publishers_number),
     (1, all_gone),
 ];
-
-fn both_ends(play: &mut Play, entry: Entry) {
-    play.reply(entry.publisher);
-    play.cancel(entry.front);
-}
 
 /// Freed in each way; its ends, and those of all freed with it, come late.
 fn twice(play: &mut Play) {
@@ -28,7 +23,7 @@ fn twice(play: &mut Play) {
             let left: Vec<usize> = play.entries.iter().map(|entry| entry.slot).collect();
             for entry in before {
                 if !left.contains(&entry.slot) {
-                    both_ends(play, entry);
+                    play.both_ends(entry);
                 }
             }
             play.free(play.entries[0], one_by(slot));
@@ -48,10 +43,10 @@ fn used_again(play: &mut Play) {
             play.free(old, way);
             let gone = 9 - play.entries.len();
             (0..gone).for_each(|turn| play.fresh(9, 4 + (turn % 3) as u8));
-            both_ends(play, old);
-            both_ends(play, play.in_slot(slot));
+            play.both_ends(old);
+            play.both_ends(play.in_slot(slot));
             play.fresh(10, 7);
-            both_ends(play, old);
+            play.both_ends(old);
             play.lost([old.publisher.0]);
             play.closed([old.front.0]);
             play.closed([9, 10, 0, 1, 2, 3]);
@@ -128,7 +123,7 @@ fn all_gone(play: &mut Play) {
             play.free(entry, way);
         }
         for &entry in entries.iter().skip(turn).step_by(5) {
-            both_ends(play, entry);
+            play.both_ends(entry);
         }
         play.closed(0..7);
         play.lost(0..8);

@@ -3,44 +3,13 @@
 
 use super::random::RUNS;
 use super::*;
-use crate::event::{Answer, Event};
-use crate::stored::walk_cases;
-use crate::table::book::Book;
-use crate::table::{End, ROOM};
+use crate::event::Event;
+use crate::stored::walk_lines::{self, Run};
+use crate::table::{End, Side, ROOM};
 use std::collections::BTreeSet;
 
-struct Run {
-    first: i64,
-    /// Each with its line, and the drop lines behind it.
-    events: Vec<(Event, Vec<String>)>,
-}
-
 fn runs() -> Vec<Run> {
-    let mut made = Runs::default();
-    push(&mut made);
-    let text = String::from_utf8(walk_cases::output(&made.bytes)).unwrap();
-    let mut lines = text.lines().map(str::to_string).peekable();
-    let mut rest = &made.bytes[..];
-    let mut runs = Vec::new();
-    while !rest.is_empty() {
-        let (front, others) = rest.split_at(12);
-        let first = i64::from_le_bytes(front[..8].try_into().unwrap());
-        let size = u32::from_le_bytes(front[8..].try_into().unwrap());
-        let (mut bytes, others) = others.split_at(size as usize);
-        assert_eq!(lines.next(), Some(format!("run {first}")));
-        let mut events = Vec::new();
-        while let Some(event) = Event::read(&mut bytes).unwrap() {
-            let mut own = vec![lines.next().unwrap()];
-            own.extend(std::iter::from_fn(|| {
-                lines.next_if(|line| line.starts_with("drop "))
-            }));
-            events.push((event.unwrap(), own));
-        }
-        runs.push(Run { first, events });
-        rest = others;
-    }
-    assert_eq!(lines.next(), None);
-    runs
+    walk_lines::runs(push)
 }
 
 #[derive(Clone)]
@@ -76,10 +45,9 @@ impl Slots {
                 self.accepted += 1;
                 vec![]
             }
-            Event::Reply(side, number) => vec![self.take(|t| t.publisher == (side, number))],
-            Event::Cancel(side, number) => vec![self.take(|t| t.front == (side, number))],
-            Event::Closed(_) => self.take_listed(lines, |t| t.publisher),
-            Event::Lost(_) => self.take_listed(lines, |t| t.front),
+            Event::Reply(peer, number) => vec![self.take(|t| t.publisher == (peer, number))],
+            Event::Cancel(peer, number) => vec![self.take(|t| t.front == (peer, number))],
+            Event::Gone(side, _) => self.take_listed(lines, |t| side.of(t.publisher, t.front)),
         }
     }
 
@@ -120,30 +88,14 @@ fn way(event: Event) -> usize {
         Event::Ask(..) => unreachable!("an ask frees nothing"),
         Event::Reply(..) => 0,
         Event::Cancel(..) => 1,
-        Event::Closed(_) => 2,
-        Event::Lost(_) => 3,
+        Event::Gone(Side::Front, _) => 2,
+        Event::Gone(Side::Publisher, _) => 3,
     }
 }
 
 #[test]
 fn the_lines_are_those_of_the_book() {
-    for run in runs() {
-        let mut book = Book::fresh(run.first).ok().unwrap();
-        for (event, lines) in run.events {
-            let mut ends = [0; 2 * ROOM];
-            let mut expected = match book.call(event, &mut ends) {
-                Ok(Answer::Ask(number)) => vec![format!("ask {number}")],
-                Ok(Answer::Reply((side, number))) => vec![format!("reply {side} {number}")],
-                Ok(Answer::Cancel((side, number))) => vec![format!("cancel {side} {number}")],
-                Ok(Answer::Closed(count)) => vec![format!("closed {count}")],
-                Ok(Answer::Lost(count)) => vec![format!("lost {count}")],
-                Err(refusal) => vec![format!("no {}", refusal.number())],
-            };
-            let listed = ends.chunks_exact(2).take(lines.len() - 1);
-            expected.extend(listed.map(|end| format!("drop {} {}", end[0], end[1])));
-            assert_eq!(lines, expected, "{event:?}");
-        }
-    }
+    walk_lines::assert_as_the_book(runs());
 }
 
 #[test]
@@ -292,11 +244,11 @@ fn late_ends_meet_a_slot_used_again() {
         let mut late = gone.iter().filter(used);
         match event {
             _ if !freed.is_empty() => {}
-            Event::Reply(side, number) => {
-                replies += usize::from(late.any(|t| t.publisher == (side, number)));
+            Event::Reply(peer, number) => {
+                replies += usize::from(late.any(|t| t.publisher == (peer, number)));
             }
-            Event::Cancel(side, number) => {
-                cancels += usize::from(late.any(|t| t.front == (side, number)));
+            Event::Cancel(peer, number) => {
+                cancels += usize::from(late.any(|t| t.front == (peer, number)));
             }
             _ => {}
         }

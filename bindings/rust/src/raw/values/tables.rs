@@ -2,6 +2,7 @@
 
 mod defined;
 mod garbage;
+mod gone;
 mod places;
 #[path = "../../../tests/common/random.rs"]
 mod random;
@@ -11,6 +12,10 @@ use super::*;
 use crate::{FrontNumber, PublisherNumber};
 
 const FIRST: i64 = 0x0102_0304_0506_0708;
+
+/// The sides of a gone peer.
+const LINK: bool = false;
+const PUBLISHER: bool = true;
 
 const EMPTY: Table = Table {
     masks: [0; 9],
@@ -61,6 +66,16 @@ fn by_age(table: &Table) -> Vec<usize> {
     let places = used.iter().map(|&i| usize::from(table.order[i]));
     assert!(places.eq(0..used.len()), "{:?}", table.order);
     used
+}
+
+/// What is left of `full` without some of its requests: the others stay in every
+/// mask, and their places close up.
+fn is_full_without(table: &Table, gone: impl Fn(usize) -> bool) {
+    let slots = (0..64).filter(|&i| gone(i)).map(slot);
+    let mask = slots.fold(0, |mask, slot| mask | 1 << slot);
+    assert_eq!(table.masks, full().masks.map(|all| all & !mask));
+    let left = (0..64).filter(|&i| !gone(i)).map(slot);
+    assert!(by_age(table).into_iter().eq(left));
 }
 
 #[test]
@@ -141,7 +156,7 @@ fn each_request_is_found_by_either_end() {
 #[test]
 fn drops_count_and_write() {
     let mut out = [-9; 6];
-    let dropped = relay_closed(&mut full(), 31, &mut out[..6]);
+    let dropped = relay_gone(&mut full(), LINK, 31, &mut out[..6]);
     let two = Dropped {
         refusal: 0,
         count: 2,
@@ -149,11 +164,11 @@ fn drops_count_and_write() {
     assert_eq!(dropped, two);
     assert_eq!(out, [7, 2031, 7, 2063, -9, -9]);
     let mut out = [-9; 17];
-    let dropped = relay_lost(&mut full(), 6, &mut out[..17]);
+    let dropped = relay_gone(&mut full(), PUBLISHER, 6, &mut out[..17]);
     assert_eq!((dropped.refusal, dropped.count), (0, 8));
     assert_eq!(out[..4], [6, 1006, 14, 1014]);
     assert_eq!(out[16], -9);
-    let dropped = relay_lost(&mut full(), 6, &mut out[..15]);
+    let dropped = relay_gone(&mut full(), PUBLISHER, 6, &mut out[..15]);
     let short = Dropped {
         refusal: 16,
         count: 0,

@@ -4,10 +4,11 @@ use mathlib.Core.Path.{_≡_, sym, ap, _∙_}
 use mathlib.Core.List.{List}
 use Prim.Native.Nat.{ℕ, _-_}
 use native.Mathlib.Omega.{arith}
+use lib.IntN.{ℤ}
 use lib.ListN.{length}
 use Rattle.inflight.specs.Matching.{overFront}
-use Rattle.inflight.specs.Tables.{Table, tableOf, line, endsOf, struck, leaving}
-use Rattle.inflight_drop.proofs.DropLaws.{leaving-eq, drop-no, drop-yes, drop-eq}
+use Rattle.inflight.specs.Tables.{Table, tableOf, endsOf, struck, leaving}
+use Rattle.inflight_drop.proofs.DropLaws.{leaving-eq, staying-eq, drop-no, drop-yes, drop-eq}
 use borrow.Author.Needs.{needs}
 use Rattle.inflight_drop.proofs.dropping.drop_slots.Statement.{statement}
 use Rattle.inflight_drop.proofs.dropping.drop_slots.Tie as tie
@@ -29,11 +30,14 @@ mul-if1 c = search needs
 
 returns : tie.Need-returns
 returns c =
-    let a = c .before .before .before .before .before .before .before .before .args in
+    let k = c .before in
+    let l = k .before .before in
+    let a = l .before .before .before .before .before .args in
     let t : Table = tableOf (a .masks .now) (a .numbers .now) (a .places .now) (a .order .now) in
-    let w = leaving-eq t (a .gone) (c .before .before .before .before .before .before .count .ensures .0) (c .before .before .before .lay-out .ensures) in
-    let k : c .before .count-leaving .result ≡ length (leaving t (a .gone)) = c .before .count-leaving .ensures .0 ∙ ap length w in
-    sym (drop-no t (a .gone) (a .base) (a .out .now) (omega (arith, c .if1 .taken, k)))
+    let leave = leaving-eq t (a .mask) (l .before .before .before .count .ensures .0) (l .lay-out .ensures) in
+    let sum : k .count-leaving .result ≡ length (leaving t (a .mask)) =
+    k .count-leaving .ensures .0 ∙ ap length leave in
+    sym (drop-no t (a .mask) (a .base) (a .out .now) (omega (arith, c .if1 .taken, sum)))
 
 write-ends-requires : tie.Need-write-ends-requires
 write-ends-requires c κs = search needs
@@ -45,14 +49,23 @@ same-length : tie.Need-same-length
 same-length c = search needs
 
 returns-2 : tie.Need-returns-2
-unfolding struck line
+unfolding struck
 returns-2 c =
-    let a = c .before .before .before .before .before .before .before .before .before .before .before .before .before .before .before .args in
+    let w = c .before .before .before .before .before in
+    let k = w .before .before .before .before in
+    let l = k .before .before in
+    let a = l .before .before .before .before .before .args in
     let t : Table = tableOf (a .masks .now) (a .numbers .now) (a .places .now) (a .order .now) in
-    let w = leaving-eq t (a .gone) (c .before .before .before .before .before .before .before .before .before .before .before .before .before .count .ensures .0) (c .before .before .before .before .before .before .before .before .before .before .lay-out .ensures) in
-    let k : c .before .before .before .before .before .before .before .before .count-leaving .result ≡ length (leaving t (a .gone)) = c .before .before .before .before .before .before .before .before .count-leaving .ensures .0 ∙ ap length w in
-    let z = c .before .before .before .before .write-ends .ensures ∙ ap (λ (xs : List ℕ). overFront (endsOf (a .numbers .now) (a .places .now) (a .base) xs) (a .out .now)) w in
-    drop-eq (a .numbers .now) (a .places .now) (c .strike .ensures .0) (c .strike .ensures .1) k z ∙ sym (drop-yes t (a .gone) (a .base) (a .out .now) (omega (arith, c .before .before .before .before .before .before .before .if1 .left, k)))
+    let laid = l .lay-out .ensures in
+    let leave = leaving-eq t (a .mask) (l .before .before .before .count .ensures .0) laid in
+    let sum : k .count-leaving .result ≡ length (leaving t (a .mask)) =
+    k .count-leaving .ensures .0 ∙ ap length leave in
+    let written : (List ℕ → List ℤ) =
+    λ xs. overFront (endsOf (a .numbers .now) (a .places .now) (a .base) xs) (a .out .now) in
+    let ends = w .write-ends .ensures ∙ ap written leave in
+    let places = c .strike .ensures .1 ∙ staying-eq t (a .mask) laid in
+    drop-eq (a .numbers .now) (a .places .now) (c .strike .ensures .0) places sum ends
+    ∙ sym (drop-yes t (a .mask) (a .base) (a .out .now) (omega (arith, w .before .before .before .if1 .left, sum)))
 
 pub drop-slots-spec : {M : Type 1} → statement M
 drop-slots-spec =

@@ -12,10 +12,10 @@ use Rattle.inflight_drop.proofs.ends.count_leaving.Statement.{statement
 use Rattle.inflight_drop.proofs.ends.count_leaving.Tie as tie
 
 abbrev Inv-loop : tie.InvT-loop
-Inv-loop line n gone i₀ sum₀ i sum = (i ≤ n) × (sum ≤ i) × (sum ≡ length (within gone (take i line)))
+Inv-loop line n mask i₀ sum₀ i sum = (i ≤ n) × (sum ≤ i) × (sum ≡ length (within mask (take i line)))
 
 abbrev μ-loop : tie.MeasureT-loop
-μ-loop line n gone i₀ sum₀ i sum = n - i
+μ-loop line n mask i₀ sum₀ i sum = n - i
 
 sized-requires : tie.Need-sized-requires Inv-loop μ-loop
 sized-requires c κs = search needs
@@ -42,7 +42,7 @@ loop-less c = search needs
 loop-again : tie.Need-loop-again Inv-loop μ-loop
 loop-again c =
     let xs = c .before .before .before .before .before .before .before .args .line .now in
-    let g : ℕ = c .before .before .before .before .before .before .before .args .gone in
+    let g : ℕ = c .before .before .before .before .before .before .before .args .mask in
     let i : ℕ = c .before .before .before .before .loop .i in
     let inv = c .before .before .before .before .loop .inv in
     let z : length xs ≡ 64 = c .before .before .before .before .before .sized .ensures in
@@ -56,7 +56,7 @@ loop-less-2 c = search needs
 loop-again-2 : tie.Need-loop-again-2 Inv-loop μ-loop
 loop-again-2 c =
     let xs = c .before .before .before .before .before .before .before .args .line .now in
-    let g : ℕ = c .before .before .before .before .before .before .before .args .gone in
+    let g : ℕ = c .before .before .before .before .before .before .before .args .mask in
     let i : ℕ = c .before .before .before .before .loop .i in
     let inv = c .before .before .before .before .loop .inv in
     let z : length xs ≡ 64 = c .before .before .before .before .before .sized .ensures in

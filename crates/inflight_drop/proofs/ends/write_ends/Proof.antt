@@ -19,10 +19,10 @@ use Rattle.inflight_drop.proofs.ends.write_ends.Statement.{statement}
 use Rattle.inflight_drop.proofs.ends.write_ends.Tie as tie
 
 abbrev Inv-loop : tie.InvT-loop
-Inv-loop numbers places line n gone base out₀ i₀ at₀ out i at = (i ≤ n) × (at ≡ 2 * length (within gone (take i line))) × (length out ≡ length out₀) × (out ≡ overFront (endsOf numbers places base (within gone (take i line))) out₀)
+Inv-loop numbers places line n mask base out₀ i₀ at₀ out i at = (i ≤ n) × (at ≡ 2 * length (within mask (take i line))) × (length out ≡ length out₀) × (out ≡ overFront (endsOf numbers places base (within mask (take i line))) out₀)
 
 abbrev μ-loop : tie.MeasureT-loop
-μ-loop numbers places line n gone base out₀ i₀ at₀ out i at = n - i
+μ-loop numbers places line n mask base out₀ i₀ at₀ out i at = n - i
 
 sized-requires : tie.Need-sized-requires Inv-loop μ-loop
 sized-requires c κs = search needs
@@ -41,18 +41,18 @@ holds-requires : tie.Need-holds-requires Inv-loop μ-loop
 holds-requires c κs = search needs
 
 -- the byte at i names a slot of the mask
-yes : (c : tie.After-b Inv-loop μ-loop) → let b = c .before .before .before .before .before .before in within (b .before .before .before .args .gone) (take (b .loop .i + 1) (b .before .before .before .args .line .now)) ≡ within (b .before .before .before .args .gone) (take (b .loop .i) (b .before .before .before .args .line .now)) ++ getD (b .before .before .before .args .line .now) (b .loop .i) 0 ∷ []
+yes : (c : tie.After-b Inv-loop μ-loop) → let b = c .before .before .before .before .before .before in within (b .before .before .before .args .mask) (take (b .loop .i + 1) (b .before .before .before .args .line .now)) ≡ within (b .before .before .before .args .mask) (take (b .loop .i) (b .before .before .before .args .line .now)) ++ getD (b .before .before .before .args .line .now) (b .loop .i) 0 ∷ []
 yes c =
     let b = c .before .before .before .before .before .before in
     let z : length (b .before .before .before .args .line .now) ≡ 64 = b .before .sized .ensures in
-    within-yes (b .before .before .before .args .gone) (b .before .before .before .args .line .now) (b .loop .i) (omega (arith, b .before .before .before .pre .0)) (sym (c .before .before .before .holds .ensures) ∙ c .before .before .if1 .taken)
+    within-yes (b .before .before .before .args .mask) (b .before .before .before .args .line .now) (b .loop .i) (omega (arith, b .before .before .before .pre .0)) (sym (c .before .before .before .holds .ensures) ∙ c .before .before .if1 .taken)
 
 room : (c : tie.After-b Inv-loop μ-loop) → c .before .before .before .before .before .before .loop .at + 2 ≤ length (c .before .before .before .before .before .before .loop .out)
 room c =
     let b = c .before .before .before .before .before .before in
     let a = b .before .before .before .args in
     let xs = a .line .now in
-    let g : ℕ = a .gone in
+    let g : ℕ = a .mask in
     let i : ℕ = b .loop .i in
     let m = within-most g xs (i + 1) (a .n) (omega arith) in
     let y : length (within g (take (i + 1) xs)) ≡ length (within g (take i xs)) + 1 = ap length (yes c) ∙ length-append (within g (take i xs)) (getD xs i 0 ∷ []) in
@@ -101,7 +101,7 @@ loop-again c =
     let ns = a .numbers .now in
     let ps = a .places .now in
     let xs = a .line .now in
-    let g : ℕ = a .gone in
+    let g : ℕ = a .mask in
     let i : ℕ = c .before .before .before .before .before .before .loop .i in
     let inv = c .before .before .before .before .before .before .loop .inv in
     let o = a .out .now in
@@ -123,7 +123,7 @@ loop-less-2 c = search needs
 loop-again-2 : tie.Need-loop-again-2 Inv-loop μ-loop
 loop-again-2 c =
     let xs = c .before .before .before .before .before .before .before .args .line .now in
-    let g : ℕ = c .before .before .before .before .before .before .before .args .gone in
+    let g : ℕ = c .before .before .before .before .before .before .before .args .mask in
     let i : ℕ = c .before .before .before .before .loop .i in
     let inv = c .before .before .before .before .loop .inv in
     let z : length xs ≡ 64 = c .before .before .before .before .before .sized .ensures in

@@ -13,10 +13,10 @@ use Rattle.inflight_free.proofs.freeing.cut_all.Statement.{statement}
 use Rattle.inflight_free.proofs.freeing.cut_all.Tie as tie
 
 abbrev Inv-loop : tie.InvT-loop
-Inv-loop masks₀ gone keep i₀ masks i = (i ≤ 9) × (masks ≡ map (cut gone) (take i masks₀) ++ drop i masks₀)
+Inv-loop masks₀ mask keep i₀ masks i = (i ≤ 9) × (masks ≡ map (cut mask) (take i masks₀) ++ drop i masks₀)
 
 abbrev μ-loop : tie.MeasureT-loop
-μ-loop masks₀ gone keep i₀ masks i = 9 - i
+μ-loop masks₀ mask keep i₀ masks i = 9 - i
 
 sized-masks-requires : tie.Need-sized-masks-requires Inv-loop μ-loop
 sized-masks-requires c κs = search needs
@@ -46,12 +46,12 @@ loop-again : tie.Need-loop-again Inv-loop μ-loop
 loop-again c =
     let a = c .before .before .before .before .before .args in
     let l : length (a .masks .now) ≡ 9 = c .before .before .before .sized-masks .ensures in
-    (omega arith, map-turn (cut (a .gone)) (a .masks .now) (c .before .before .loop .masks) (c .before .before .loop .i) (omega arith) (c .before .before .loop .inv .1))
+    (omega arith, map-turn (cut (a .mask)) (a .masks .now) (c .before .before .loop .masks) (c .before .before .loop .i) (omega arith) (c .before .before .loop .inv .1))
 
 returns : tie.Need-returns Inv-loop μ-loop
 returns c =
     let ms = c .before .before .before .before .args .masks .now in
-    let g : ℕ = c .before .before .before .before .args .gone in
+    let g : ℕ = c .before .before .before .before .args .mask in
     let l : length ms ≡ 9 = c .before .before .sized-masks .ensures in
     let i : ℕ = c .before .loop .i in
     let e : i ≡ length ms = omega arith in

@@ -13,10 +13,10 @@ use Rattle.inflight_free.proofs.freeing.place_anew.Statement.{statement
 use Rattle.inflight_free.proofs.freeing.place_anew.Tie as tie
 
 abbrev Inv-loop : tie.InvT-loop
-Inv-loop order₀ line n gone i₀ k₀ order i k = (i ≤ n) × (k ≤ i) × (k ≡ length (outside gone (take i line))) × (order ≡ placedAnew (outside gone (take i line)) 0 order₀)
+Inv-loop order₀ line n mask i₀ k₀ order i k = (i ≤ n) × (k ≤ i) × (k ≡ length (outside mask (take i line))) × (order ≡ placedAnew (outside mask (take i line)) 0 order₀)
 
 abbrev μ-loop : tie.MeasureT-loop
-μ-loop order₀ line n gone i₀ k₀ order i k = n - i
+μ-loop order₀ line n mask i₀ k₀ order i k = n - i
 
 sized-order-requires : tie.Need-sized-order-requires Inv-loop μ-loop
 sized-order-requires c κs = search needs
@@ -54,7 +54,7 @@ loop-again c =
     let a = c .before .before .before .before .before .before .before .args in
     let os = a .order .now in
     let xs = a .line .now in
-    let g : ℕ = a .gone in
+    let g : ℕ = a .mask in
     let o = c .before .before .before .before .loop .order in
     let i : ℕ = c .before .before .before .before .loop .i in
     let k : ℕ = c .before .before .before .before .loop .k in
@@ -76,7 +76,7 @@ loop-again-2 : tie.Need-loop-again-2 Inv-loop μ-loop
 loop-again-2 c =
     let a = c .before .before .before .before .before .before .before .args in
     let xs = a .line .now in
-    let g : ℕ = a .gone in
+    let g : ℕ = a .mask in
     let i : ℕ = c .before .before .before .before .loop .i in
     let inv = c .before .before .before .before .loop .inv in
     let l : length xs ≡ 64 = c .before .before .before .before .before .sized-order .ensures in
@@ -87,7 +87,7 @@ returns : tie.Need-returns Inv-loop μ-loop
 returns c =
     let a = c .before .before .before .before .args in
     let e : c .before .loop .i ≡ a .n = omega arith in
-    c .before .loop .inv .3 ∙ ap (λ (i : ℕ). placedAnew (outside (a .gone) (take i (a .line .now))) 0 (a .order .now)) e
+    c .before .loop .inv .3 ∙ ap (λ (i : ℕ). placedAnew (outside (a .mask) (take i (a .line .now))) 0 (a .order .now)) e
 
 pub place-anew-spec : {M : Type 1} → statement M
 place-anew-spec =

@@ -29,14 +29,8 @@ cancel-turn-requires c κs = search needs
 enum-known-e-4 : tie.Need-enum-known-e-4
 enum-known-e-4 c = search needs
 
-closed-turn-requires : tie.Need-closed-turn-requires
-closed-turn-requires c κs = search needs
-
-enum-known-e-5 : tie.Need-enum-known-e-5
-enum-known-e-5 c = search needs
-
-lost-turn-requires : tie.Need-lost-turn-requires
-lost-turn-requires c κs = search needs
+gone-turn-requires : tie.Need-gone-turn-requires
+gone-turn-requires c κs = search needs
 
 enum-told : tie.Need-enum-told
 enum-told c = search needs
@@ -94,17 +88,18 @@ returns-4 c =
     let known = c .before .before .before .before .before .before .before .before .before in
     let a = known .before .before .before .args in
     event-is (tableOf (a .masks .now) (a .numbers .now) (a .places .now) (a .order .now)) (a .text .now)
-    (known .e4 .given .1) (c .before .before .closed-turn .ensures)
+    (known .e4 .given .1) (c .before .before .gone-turn .ensures)
 
 same-length-5 : tie.Need-same-length-5
 same-length-5 c = search needs
 
 returns-5 : tie.Need-returns-5
+unfolding turnOf linesOf afterEvent
 returns-5 c =
-    let known = c .before .before .before .before .before .before .before .before .before in
-    let a = known .before .before .before .args in
+    let a = c .before .before .before .before .before .before .before .args in
+    let p = c .before .before .put-refused .ensures in
     event-is (tableOf (a .masks .now) (a .numbers .now) (a .places .now) (a .order .now)) (a .text .now)
-    (known .e5 .given .1) (c .before .before .lost-turn .ensures)
+    (c .before .before .before .before .enum-told .given .1) (ap (turned (tableOf (a .masks .now) (a .numbers .now) (a .places .now) (a .order .now))) (p .0), p .1)
 
 same-length-6 : tie.Need-same-length-6
 same-length-6 c = search needs
@@ -113,9 +108,9 @@ returns-6 : tie.Need-returns-6
 unfolding turnOf linesOf afterEvent
 returns-6 c =
     let a = c .before .before .before .before .before .before .before .args in
-    let p = c .before .before .put-refused .ensures in
+    let p = c .before .before .put-refused2 .ensures in
     event-is (tableOf (a .masks .now) (a .numbers .now) (a .places .now) (a .order .now)) (a .text .now)
-    (c .before .before .before .before .enum-told .given .1) (ap (turned (tableOf (a .masks .now) (a .numbers .now) (a .places .now) (a .order .now))) (p .0), p .1)
+    (c .before .before .before .before .enum-told2 .given .1) (ap (turned (tableOf (a .masks .now) (a .numbers .now) (a .places .now) (a .order .now))) (p .0), p .1)
 
 same-length-7 : tie.Need-same-length-7
 same-length-7 c = search needs
@@ -123,17 +118,6 @@ same-length-7 c = search needs
 returns-7 : tie.Need-returns-7
 unfolding turnOf linesOf afterEvent
 returns-7 c =
-    let a = c .before .before .before .before .before .before .before .args in
-    let p = c .before .before .put-refused2 .ensures in
-    event-is (tableOf (a .masks .now) (a .numbers .now) (a .places .now) (a .order .now)) (a .text .now)
-    (c .before .before .before .before .enum-told2 .given .1) (ap (turned (tableOf (a .masks .now) (a .numbers .now) (a .places .now) (a .order .now))) (p .0), p .1)
-
-same-length-8 : tie.Need-same-length-8
-same-length-8 c = search needs
-
-returns-8 : tie.Need-returns-8
-unfolding turnOf linesOf afterEvent
-returns-8 c =
     let a = c .before .before .before .before .before .before .before .args in
     let p = c .before .before .put-refused3 .ensures in
     event-is (tableOf (a .masks .now) (a .numbers .now) (a .places .now) (a .order .now)) (a .text .now)
@@ -150,9 +134,7 @@ turn-spec =
     enum-known-e-3
     cancel-turn-requires
     enum-known-e-4
-    closed-turn-requires
-    enum-known-e-5
-    lost-turn-requires
+    gone-turn-requires
     enum-told
     put-refused-requires
     enum-told-2
@@ -172,6 +154,4 @@ turn-spec =
     same-length-6
     returns-6
     same-length-7
-    returns-7
-    same-length-8
-    returns-8)
+    returns-7)

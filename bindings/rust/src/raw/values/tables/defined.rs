@@ -116,20 +116,19 @@ pub fn cancel(table: &mut Table, link: u8, front: i64) -> Result<(u8, i64), u8> 
     Ok((table.places[64 + slot], table.numbers[64 + slot]))
 }
 
-pub fn closed(table: &mut Table, link: u8, out: &mut [i64]) -> Result<usize, u8> {
-    if link > 31 {
-        return Err(30);
+/// How many were freed, or a refusal.
+pub fn gone(table: &mut Table, publisher: bool, number: u8, out: &mut [i64]) -> Result<usize, u8> {
+    match publisher {
+        PUBLISHER if number > 7 => Err(30),
+        PUBLISHER => freed(table, mine(table, number), 0, out),
+        LINK if number > 31 => Err(30),
+        LINK => freed(table, of_link(table, number), 64, out),
     }
-    let of_link = slots(table.masks[0]).filter(|&i| table.places[i] == link);
-    let gone = of_link.fold(0, |mask, i| mask | 1 << i);
-    freed(table, gone, 64, out)
 }
 
-pub fn lost(table: &mut Table, publisher: u8, out: &mut [i64]) -> Result<usize, u8> {
-    if publisher > 7 {
-        return Err(30);
-    }
-    freed(table, mine(table, publisher), 0, out)
+fn of_link(table: &Table, link: u8) -> u64 {
+    let slots = slots(table.masks[0]).filter(|&i| table.places[i] == link);
+    slots.fold(0, |mask, i| mask | 1 << i)
 }
 
 /// The slots of a mask are freed. Their other ends are at an offset into numbers

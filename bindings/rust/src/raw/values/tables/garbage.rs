@@ -95,18 +95,18 @@ fn drops_of_all_ones() {
     (table.places[63], table.numbers[63]) = (1, 8);
     let before = table;
     let mut out = [7; 130];
-    let dropped = relay_lost(&mut table, 2, &mut out[..127]);
+    let dropped = relay_gone(&mut table, PUBLISHER, 2, &mut out[..127]);
     assert_eq!((dropped.refusal, dropped.count), (16, 0));
     assert_eq!((table, out), (before, [7; 130]));
     // Slot 63 has the last place, and slot 0 stands in all others: it takes each
     // of them in turn where none leaves.
-    let dropped = relay_closed(&mut table, 31, &mut out);
+    let dropped = relay_gone(&mut table, LINK, 31, &mut out);
     assert_eq!((dropped.refusal, dropped.count), (0, 0));
     let mut expected = before;
     (expected.order[0], expected.order[63]) = (62, 63);
     assert_eq!((table, out), (expected, [7; 130]));
     let mut table = before;
-    let dropped = relay_lost(&mut table, 2, &mut out);
+    let dropped = relay_gone(&mut table, PUBLISHER, 2, &mut out);
     assert_eq!((dropped.refusal, dropped.count), (0, 64));
     assert!(out[..126].chunks(2).all(|end| end == [255, -1]));
     assert_eq!(out[126..], [1, 8, 7, 7]);
@@ -122,13 +122,13 @@ fn drops_of_all_ones() {
 fn places_over_63() {
     let mut out = [0; 4];
     let mut table = placed([129, 192]);
-    assert_eq!(relay_lost(&mut table, 5, &mut out).count, 2);
+    assert_eq!(relay_gone(&mut table, PUBLISHER, 5, &mut out).count, 2);
     assert_eq!(out, [3, 71, 3, 70]);
     assert_eq!(table.masks, [0; 9]);
     assert_eq!(table.order[..2], [129, 192]);
     // Nothing leaves, and they become what they count for.
     let mut table = placed([129, 192]);
-    assert_eq!(relay_lost(&mut table, 4, &mut out).count, 0);
+    assert_eq!(relay_gone(&mut table, PUBLISHER, 4, &mut out).count, 0);
     assert_eq!(table.order[..2], [1, 0]);
     let mut table = placed([129, 192]);
     assert_eq!(relay_cancel(&mut table, 3, FrontNumber(71)).refusal, 0);
@@ -180,7 +180,7 @@ fn used_slots_whose_place_is_beyond_the_count() {
         table.masks[6] = 0b10;
         let mut out = [-9; 2];
         let mut expected = table;
-        let dropped = relay_lost(&mut table, 5, &mut out);
+        let dropped = relay_gone(&mut table, PUBLISHER, 5, &mut out);
         assert_eq!((dropped.refusal, dropped.count, out), (0, 0, [-9; 2]));
         (expected.masks[0], expected.masks[6]) = (0b01, 0);
         expected.order[0] = 1;
@@ -189,9 +189,9 @@ fn used_slots_whose_place_is_beyond_the_count() {
     // Both are beyond it: slot 0 is counted twice, and slot 1 is not.
     let mut out = [-9; 4];
     let mut table = placed([9, 2]);
-    assert_eq!(relay_closed(&mut table, 3, &mut out[..3]).refusal, 16);
+    assert_eq!(relay_gone(&mut table, LINK, 3, &mut out[..3]).refusal, 16);
     assert_eq!((table, out), (placed([9, 2]), [-9; 4]));
-    assert_eq!(relay_closed(&mut table, 3, &mut out).count, 2);
+    assert_eq!(relay_gone(&mut table, LINK, 3, &mut out).count, 2);
     assert_eq!(out, [5, FIRST, 5, FIRST]);
     assert_eq!(
         (table.masks, table.order[..2].to_vec()),
@@ -221,22 +221,22 @@ fn slots_of_a_publisher_that_are_not_used() {
 fn slots_with_the_same_place() {
     let mut out = [0; 6];
     let mut table = placed([0, 0]);
-    assert_eq!(relay_closed(&mut table, 3, &mut out[..3]).refusal, 16);
-    assert_eq!(relay_closed(&mut table, 3, &mut out).count, 2);
+    assert_eq!(relay_gone(&mut table, LINK, 3, &mut out[..3]).refusal, 16);
+    assert_eq!(relay_gone(&mut table, LINK, 3, &mut out).count, 2);
     assert_eq!(out, [5, FIRST + 1, 5, FIRST, 0, 0]);
     assert_eq!(table.masks, [0; 9]);
     let mut table = placed([0, 2, 2]);
-    assert_eq!(relay_closed(&mut table, 3, &mut out[..5]).refusal, 16);
-    assert_eq!(relay_closed(&mut table, 3, &mut out).count, 3);
+    assert_eq!(relay_gone(&mut table, LINK, 3, &mut out[..5]).refusal, 16);
+    assert_eq!(relay_gone(&mut table, LINK, 3, &mut out).count, 3);
     assert_eq!(out, [5, FIRST, 5, FIRST, 5, FIRST + 2]);
     assert_eq!(table.masks, [0; 9]);
     // Of those that stay, slot 2 takes a place; slot 1 has none, and keeps its byte.
     let mut table = placed([0, 2, 2]);
-    assert_eq!(relay_lost(&mut table, 0, &mut out).count, 0);
+    assert_eq!(relay_gone(&mut table, PUBLISHER, 0, &mut out).count, 0);
     assert_eq!(table.order[..3], [1, 2, 2]);
     let mut table = placed([66, 1, 1]);
     table.masks[6] = 0b001;
-    assert_eq!(relay_lost(&mut table, 5, &mut out).count, 2);
+    assert_eq!(relay_gone(&mut table, PUBLISHER, 5, &mut out).count, 2);
     assert_eq!(out[..4], [3, 70, 3, 70]);
     assert_eq!((table.masks[0], table.masks[6]), (0b110, 0));
     assert_eq!(table.order[..3], [66, 1, 0]);
@@ -272,17 +272,12 @@ fn one(kind: usize, tables: [&mut Table; 2], a: u8, b: u8, number: i64) -> Answe
     }
 }
 
-/// The same closed link or lost publisher on two tables, into the same room.
-fn many(closed: bool, tables: [&mut Table; 2], a: u8, b: u8, room: usize) -> Answers {
+/// The same gone peer on two tables, into the same room.
+fn many(publisher: bool, tables: [&mut Table; 2], number: u8, room: usize) -> Answers {
     let [table, other] = tables;
     let (mut out, mut wanted) = ([-9; 130], [-9; 130]);
-    let (ours, defined) = if closed {
-        let dropped = relay_closed(table, a, &mut out[..room]);
-        (dropped, defined::closed(other, a, &mut wanted[..room]))
-    } else {
-        let dropped = relay_lost(table, b, &mut out[..room]);
-        (dropped, defined::lost(other, b, &mut wanted[..room]))
-    };
+    let ours = relay_gone(table, publisher, number, &mut out[..room]);
+    let defined = defined::gone(other, publisher, number, &mut wanted[..room]);
     assert_eq!(out, wanted);
     let counts = defined.map(|n| (0, n as i64));
     ((ours.refusal, 0, ours.count as i64), counts)
@@ -294,12 +289,11 @@ fn compare(random: &mut Random, table: &mut Table) {
     let mut other = *table;
     let tables = [&mut *table, &mut other];
     let (a, b) = (random.below(34) as u8, random.below(9) as u8);
+    let room = [0, 1, 2, 5, 16, 40, 127, 128, 130][random.below(9)];
     let (ours, defined) = match random.below(6) {
-        kind @ 0..4 => one(kind, tables, a, b, NUMBERS[random.below(8)]),
-        kind => {
-            let room = [0, 1, 2, 5, 16, 40, 127, 128, 130][random.below(9)];
-            many(kind == 4, tables, a, b, room)
-        }
+        4 => many(LINK, tables, a, room),
+        5 => many(PUBLISHER, tables, b, room),
+        kind => one(kind, tables, a, b, NUMBERS[random.below(8)]),
     };
     let defined = defined.map_or_else(|no| (no, 0, 0), |(place, n)| (0, place, n));
     assert_eq!((ours, *table), (defined, other));

@@ -48,20 +48,16 @@ impl Both {
         }
     }
 
-    fn closed(&mut self, link: u8) {
+    fn gone(&mut self, publisher: bool, number: u8) {
         let mut out = [0; 128];
-        let dropped = relay_closed(&mut self.table, link, &mut out);
-        let gone = self.leave(|f| f.link == link);
-        let ends = gone.iter().map(|f| [f.publisher.into(), f.number]);
-        is_dropped(dropped, &out, ends);
-    }
-
-    fn lost(&mut self, publisher: u8) {
-        let mut out = [0; 128];
-        let dropped = relay_lost(&mut self.table, publisher, &mut out);
-        let gone = self.leave(|f| f.publisher == publisher);
-        let ends = gone.iter().map(|f| [f.link.into(), f.front]);
-        is_dropped(dropped, &out, ends);
+        let dropped = relay_gone(&mut self.table, publisher, number, &mut out);
+        let gone = self.leave(|f| number == if publisher { f.publisher } else { f.link });
+        let ends = gone.iter().flat_map(|f| match publisher {
+            true => [f.link.into(), f.front],
+            false => [f.publisher.into(), f.number],
+        });
+        assert_eq!((dropped.refusal, dropped.count), (0, gone.len()));
+        assert!(ends.eq(out[..2 * gone.len()].iter().copied()));
     }
 
     fn leave(&mut self, leaves: impl Fn(&Flight) -> bool) -> Vec<Flight> {
@@ -75,8 +71,8 @@ impl Both {
         let count = self.flights.len();
         match random.below(100) {
             kind if kind < asks => self.ask(link, 1 + random.below(100) as i64, publisher),
-            kind if kind % 9 == 0 => self.closed(link),
-            kind if kind % 9 == 1 => self.lost(publisher),
+            kind if kind % 9 == 0 => self.gone(LINK, link),
+            kind if kind % 9 == 1 => self.gone(PUBLISHER, publisher),
             kind if count > 0 => self.reply_or_cancel(random.below(count), kind % 2 == 0),
             _ => {}
         }
@@ -93,12 +89,6 @@ impl Both {
             assert_eq!((places[other], numbers[other]), (f.publisher, f.number));
         }
     }
-}
-
-fn is_dropped(dropped: Dropped, out: &[i64], ends: impl ExactSizeIterator<Item = [i64; 2]>) {
-    assert_eq!((dropped.refusal, dropped.count), (0, ends.len()));
-    let written = out[..2 * dropped.count].iter().copied();
-    assert!(written.eq(ends.flatten()));
 }
 
 /// Whatever stood there before; and every count from 0 to 64 is met.

@@ -58,8 +58,8 @@ fn a_request_stays_in_its_slot() {
     let before = asked();
     let mut table = before;
     let mut out = [0; 128];
-    assert_eq!(relay_lost(&mut table, 3, &mut out).count, 8);
-    assert_eq!(relay_closed(&mut table, 6, &mut out).count, 2);
+    assert_eq!(relay_gone(&mut table, PUBLISHER, 3, &mut out).count, 8);
+    assert_eq!(relay_gone(&mut table, LINK, 6, &mut out).count, 2);
     for slot in (0..64).step_by(4) {
         let (link, front, publisher, number) = held(&before, slot);
         let refusal = match slot % 8 {
@@ -78,16 +78,6 @@ fn a_request_stays_in_its_slot() {
         (table.numbers, table.places),
         (before.numbers, before.places)
     );
-}
-
-/// What is left of `full` without some of its requests: the others stay in every
-/// mask, and their places close up.
-fn is_full_without(table: &Table, gone: impl Fn(usize) -> bool) {
-    let slots = (0..64).filter(|&i| gone(i)).map(slot);
-    let mask = slots.fold(0, |mask, slot| mask | 1 << slot);
-    assert_eq!(table.masks, full().masks.map(|all| all & !mask));
-    let left = (0..64).filter(|&i| !gone(i)).map(slot);
-    assert!(by_age(table).into_iter().eq(left));
 }
 
 /// Each of 64 by a reply and by a cancel.
@@ -109,13 +99,16 @@ fn freed_slots_leave_every_mask() {
     let mut out = [0; 128];
     for publisher in 0..8 {
         let mut table = full();
-        assert_eq!(relay_lost(&mut table, publisher, &mut out).count, 8);
+        assert_eq!(
+            relay_gone(&mut table, PUBLISHER, publisher, &mut out).count,
+            8
+        );
         is_full_without(&table, |i| request(i).2 == publisher);
         assert_eq!(table.masks[1 + usize::from(publisher)], 0);
     }
     for link in 0..32 {
         let mut table = full();
-        assert_eq!(relay_closed(&mut table, link, &mut out).count, 2);
+        assert_eq!(relay_gone(&mut table, LINK, link, &mut out).count, 2);
         is_full_without(&table, |i| request(i).0 == link);
     }
 }
@@ -140,8 +133,8 @@ fn places_close_up_to_the_last_request() {
     for i in [22, 31, 4, 49, 13, 58, 40] {
         let (link, _, publisher, _) = request(i);
         let dropped = match i % 2 {
-            0 => relay_lost(&mut table, publisher, &mut out),
-            _ => relay_closed(&mut table, link, &mut out),
+            0 => relay_gone(&mut table, PUBLISHER, publisher, &mut out),
+            _ => relay_gone(&mut table, LINK, link, &mut out),
         };
         assert_eq!((dropped.refusal, dropped.count), (0, 1));
         gone[i] = true;
@@ -171,10 +164,10 @@ fn the_order_is_by_acceptance_and_not_by_slot() {
     assert_eq!(by_age(&table), [1, 3, 0, 2]);
     let mut out = [0; 8];
     let mut other = table;
-    assert_eq!(relay_lost(&mut other, 2, &mut out).count, 3);
+    assert_eq!(relay_gone(&mut other, PUBLISHER, 2, &mut out).count, 3);
     assert_eq!(out, [1, 2, 1, 4, 1, 5, 0, 0]);
     assert_eq!((other.masks[0], other.order[2]), (0b0100, 0));
-    assert_eq!(relay_closed(&mut table, 1, &mut out).count, 4);
+    assert_eq!(relay_gone(&mut table, LINK, 1, &mut out).count, 4);
     let numbers = [FIRST + 1, FIRST + 3, FIRST + 4, FIRST];
     assert_eq!(
         out,
@@ -242,10 +235,10 @@ fn refused_calls_leave_every_byte() {
     assert_eq!(cancel(&mut table, 0, 0), 12);
     assert_eq!(cancel(&mut table, 0, 1001), 34);
     let mut out = [-9; 15];
-    assert_eq!(relay_closed(&mut table, 32, &mut out).refusal, 30);
-    assert_eq!(relay_closed(&mut table, 5, &mut out[..3]).refusal, 16);
-    assert_eq!(relay_lost(&mut table, 8, &mut out).refusal, 30);
-    assert_eq!(relay_lost(&mut table, 7, &mut out).refusal, 16);
+    assert_eq!(relay_gone(&mut table, LINK, 32, &mut out).refusal, 30);
+    assert_eq!(relay_gone(&mut table, LINK, 5, &mut out[..3]).refusal, 16);
+    assert_eq!(relay_gone(&mut table, PUBLISHER, 8, &mut out).refusal, 30);
+    assert_eq!(relay_gone(&mut table, PUBLISHER, 7, &mut out).refusal, 16);
     assert_eq!((table, out), (before, [-9; 15]));
     let mut table = fresh();
     for front in 1..=16 {

@@ -1,0 +1,207 @@
+//! A run in the making. It keeps the requests in flight in the order of
+//! acceptance, each with the slot that the lowest-free-slot rule of document
+//! 02, A12, gives it, so that a case can name a request by age or by slot.
+
+use super::walk_cases::Runs;
+use super::walk_scripts::Script;
+use crate::event::{Answer, Event};
+use crate::table::{End, Side, Table, LINKS, ROOM};
+
+#[derive(Clone, Copy)]
+pub struct Entry {
+    /// Front link and front number.
+    pub front: End,
+    /// Publisher and publisher number.
+    pub publisher: End,
+    pub slot: usize,
+}
+
+impl Entry {
+    pub fn end(&self, side: Side) -> End {
+        side.of(self.front, self.publisher)
+    }
+}
+
+/// The four ways to free requests.
+#[derive(Clone, Copy)]
+pub enum Way {
+    Reply,
+    Cancel,
+    Gone(Side),
+}
+
+pub const WAYS: [Way; 4] = [
+    Way::Reply,
+    Way::Cancel,
+    Way::Gone(Side::Front),
+    Way::Gone(Side::Publisher),
+];
+
+/// Reply and cancel by turns.
+pub fn one_by(turn: usize) -> Way {
+    WAYS[turn % 2]
+}
+
+/// What a run is about, and the first number it is stored with.
+pub type Case = (i64, fn(&mut Play));
+
+pub fn push_case(runs: &mut Runs, first: i64, case: impl FnOnce(&mut Play)) {
+    let mut play = Play::new(first);
+    case(&mut play);
+    runs.push(first, play.script);
+}
+
+pub struct Play {
+    pub script: Script,
+    /// Every publisher's first number.
+    pub first: i64,
+    table: Table,
+    /// Oldest accepted first.
+    pub entries: Vec<Entry>,
+    /// Each link's front numbers so far. Counted by link, so that many links
+    /// have the same number in flight.
+    last: [i64; LINKS as usize],
+}
+
+impl Play {
+    pub fn new(first: i64) -> Play {
+        Play {
+            script: Script::default(),
+            first,
+            table: Table::fresh(first).expect("a first number of at least 1"),
+            entries: Vec::new(),
+            last: [0; LINKS as usize],
+        }
+    }
+
+    pub fn push(&mut self, event: Event) {
+        let answer = event.call(&mut self.table, &mut [0; 2 * ROOM]);
+        match (event, answer) {
+            (Event::Ask(link, number, publisher), Ok(Answer::Ask(publisher_number))) => {
+                let slot = (0..ROOM).find(|&slot| self.at(slot).is_none());
+                self.entries.push(Entry {
+                    front: (link, number),
+                    publisher: (publisher, publisher_number),
+                    slot: slot.expect("a free slot"),
+                });
+            }
+            (_, Err(_)) => {}
+            _ => self.entries.retain(|entry| !frees(event, entry)),
+        }
+        event.encode(&mut self.script.bytes);
+    }
+
+    pub fn ask(&mut self, link: u8, number: i64, publisher: u8) {
+        self.push(Event::Ask(link, number, publisher));
+    }
+
+    /// The same request of a front end for each publisher given.
+    pub fn ask_each(&mut self, front: End, publishers: impl IntoIterator<Item = u8>) {
+        for publisher in publishers {
+            self.ask(front.0, front.1, publisher);
+        }
+    }
+
+    /// Front numbers go on after `number` at every link.
+    pub fn count_from(&mut self, number: i64) {
+        self.last = [number; LINKS as usize];
+    }
+
+    /// Asks with the link's next front number; every fifth is negative.
+    pub fn fresh(&mut self, link: u8, publisher: u8) {
+        let last = &mut self.last[usize::from(link)];
+        *last += 1;
+        let number = if *last % 5 == 0 { -*last } else { *last };
+        self.ask(link, number, publisher);
+    }
+
+    /// So many requests of one link to one publisher.
+    pub fn fresh_many(&mut self, count: usize, link: u8, publisher: u8) {
+        (0..count).for_each(|_| self.fresh(link, publisher));
+    }
+
+    pub fn reply(&mut self, publisher: End) {
+        self.push(Event::Reply(publisher.0, publisher.1));
+    }
+
+    pub fn cancel(&mut self, front: End) {
+        self.push(Event::Cancel(front.0, front.1));
+    }
+
+    /// A reply and a cancel; at least one of them comes late.
+    pub fn both_ends(&mut self, entry: Entry) {
+        self.reply(entry.publisher);
+        self.cancel(entry.front);
+    }
+
+    pub fn gone(&mut self, side: Side, peers: impl IntoIterator<Item = u8>) {
+        for number in peers {
+            self.push(Event::Gone(side, number));
+        }
+    }
+
+    pub fn closed(&mut self, links: impl IntoIterator<Item = u8>) {
+        self.gone(Side::Front, links);
+    }
+
+    pub fn lost(&mut self, publishers: impl IntoIterator<Item = u8>) {
+        self.gone(Side::Publisher, publishers);
+    }
+
+    /// Frees `entry`; a gone peer frees others with it.
+    pub fn free(&mut self, entry: Entry, way: Way) {
+        match way {
+            Way::Reply => self.reply(entry.publisher),
+            Way::Cancel => self.cancel(entry.front),
+            Way::Gone(side) => self.gone(side, [entry.end(side).0]),
+        }
+    }
+
+    pub fn at(&self, slot: usize) -> Option<Entry> {
+        let found = self.entries.iter().find(|entry| entry.slot == slot);
+        found.copied()
+    }
+
+    /// The request in a slot that is known to be used.
+    pub fn in_slot(&self, slot: usize) -> Entry {
+        self.at(slot).expect("a used slot")
+    }
+
+    /// The publisher's requests, oldest accepted first.
+    pub fn of(&self, publisher: u8) -> Vec<Entry> {
+        self.of_peer(Side::Publisher, publisher)
+    }
+
+    /// The requests of a peer on either side, oldest accepted first.
+    pub fn of_peer(&self, side: Side, number: u8) -> Vec<Entry> {
+        let of_peer = |entry: &&Entry| entry.end(side).0 == number;
+        self.entries.iter().filter(of_peer).copied().collect()
+    }
+
+    /// Asks in rounds over the publishers until each has its load. The links
+    /// below `links` take turns, shifted from round to round.
+    pub fn fill(&mut self, loads: [usize; 8], links: usize) {
+        for turn in 0..16 * 8 {
+            let publisher = (turn % 8) as u8;
+            if self.of(publisher).len() < loads[turn % 8] {
+                self.fresh(((turn + turn / 8) % links) as u8, publisher);
+            }
+        }
+    }
+
+    /// One more ask for each publisher, from the last one down.
+    pub fn probe(&mut self, link: u8) {
+        for publisher in (0..8).rev() {
+            self.fresh(link, publisher);
+        }
+    }
+}
+
+fn frees(event: Event, entry: &Entry) -> bool {
+    match event {
+        Event::Ask(..) => false,
+        Event::Reply(publisher, number) => entry.publisher == (publisher, number),
+        Event::Cancel(link, number) => entry.front == (link, number),
+        Event::Gone(side, number) => entry.end(side).0 == number,
+    }
+}
