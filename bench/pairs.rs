@@ -1,5 +1,5 @@
 //! Pairs of calls on a table that holds a number of requests: one is freed, and one is asked. Which one is freed is
-//! drawn before the time is taken, and so are links and numbers; the loads of the publishers stay even.
+//! drawn before the time is taken, and so are links, numbers and timeouts; the loads of the publishers stay even.
 
 use super::two_maps::TwoMaps;
 use super::{by_maps, ours, time, Answer};
@@ -36,6 +36,8 @@ struct Draws {
     table: TwoMaps,
     in_flight: Vec<Request>,
     front: i64,
+    /// Whether a request has a deadline: of some seconds by a clock that runs on, so that none comes.
+    timed: bool,
 }
 
 impl Draws {
@@ -44,7 +46,11 @@ impl Draws {
         let link = self.generator.below(32) as u8;
         let number = self.table.ask(link, self.front, publisher).expect("the loads are even");
         self.in_flight.push(((link, self.front), (publisher, number)));
-        Event::Ask(link, self.front, publisher)
+        if !self.timed {
+            return Event::Ask(link, self.front, publisher);
+        }
+        let timeout = 10_000 + self.generator.below(20_000) as u32;
+        Event::AskBy(link, self.front, publisher, self.front as u64, timeout)
     }
 
     /// The event that frees a request, and the publisher that it had.
@@ -59,9 +65,9 @@ impl Draws {
     }
 }
 
-fn draw(in_flight: usize, freed: Freed) -> Work {
+fn draw(in_flight: usize, freed: Freed, timed: bool) -> Work {
     let table = TwoMaps::new(1).expect("1 is a first number");
-    let mut draws = Draws { generator: Generator::new(12), table, in_flight: Vec::new(), front: 0 };
+    let mut draws = Draws { generator: Generator::new(12), table, in_flight: Vec::new(), front: 0, timed };
     let fill = (0..in_flight).map(|n| draws.ask(n as u8 % 8)).collect();
     let mut calls = Vec::new();
     for n in in_flight..in_flight + PAIRS {
@@ -89,8 +95,8 @@ fn filled(work: &Work) -> (Table, TwoMaps) {
 }
 
 /// Nanoseconds a pair, of ours and of the two maps, in rounds by turns; sorted.
-fn measured(in_flight: usize, freed: Freed) -> [Vec<f64>; 2] {
-    let work = draw(in_flight, freed);
+fn measured(in_flight: usize, freed: Freed, timed: bool) -> [Vec<f64>; 2] {
+    let work = draw(in_flight, freed, timed);
     let (table, maps) = filled(&work);
     let mut rounds = [const { Vec::new() }; 2];
     for _ in 0..ROUNDS {
@@ -104,16 +110,18 @@ fn measured(in_flight: usize, freed: Freed) -> [Vec<f64>; 2] {
     rounds
 }
 
-pub fn print(freed: Freed) {
+pub fn print(freed: Freed, timed: bool) {
     let which = match freed {
         Freed::Oldest => "the oldest by a reply",
         Freed::Random => "one at random, one in four by a cancel",
     };
-    println!("\nNanoseconds to free a request, {which}, and ask one; and how many times ours is as fast.\n");
-    println!("| in flight | ours, shortest | two hash maps, shortest | ours, median | two hash maps, median |");
+    let asked = if timed { "ask one with a deadline" } else { "ask one" };
+    println!("\nNanoseconds to free a request, {which}, and {asked}; and how many times ours is as fast.\n");
+    let maps = if timed { "maps and tree" } else { "two hash maps" };
+    println!("| in flight | ours, shortest | {maps}, shortest | ours, median | {maps}, median |");
     println!("|---|---|---|---|---|");
     for in_flight in IN_FLIGHT {
-        let [ours, maps] = measured(in_flight, freed);
+        let [ours, maps] = measured(in_flight, freed, timed);
         print!("| {in_flight} |");
         for at in [0, ROUNDS / 2] {
             print!(" {:.0} | {:.0} ({:.2}) |", ours[at], maps[at], maps[at] / ours[at]);

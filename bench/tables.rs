@@ -4,20 +4,26 @@
 //! First mixed traffic, beside one hash map keyed by publisher and number. It keeps no rule of room, does not look
 //! whether a front number is in flight, and walks over all requests for a cancel or a gone peer. Then pairs of calls
 //! at a number of requests in flight, beside two hash maps that keep every rule (two_maps.rs, pairs.rs), and gone peers
-//! beside those and the second program (gone.rs).
+//! and deadlines beside those and the second program (gone.rs, deadlines.rs; filled.rs has what both share).
 //!
 //! The library, the second program and the two hash maps give the same answers, which is checked first.
 
+use reference::clock::Pace;
 use reference::event::Event;
 use reference::generator::Generator;
 use reference::table::{Side, Table as Second};
-use reference::traffic::{self, Traffic};
+use reference::traffic::{self, Profile, Traffic};
 use relay::{FrontNumber, OtherEnds, Peer, PublisherNumber, Table, ALL_ENDS};
 use std::collections::HashMap;
 use std::convert::Infallible;
 use std::hint::black_box;
+use std::num::NonZeroU32;
 use std::time::Instant;
 
+#[path = "deadlines.rs"]
+mod deadlines;
+#[path = "filled.rs"]
+mod filled;
 #[path = "gone.rs"]
 mod gone;
 #[path = "pairs.rs"]
@@ -52,6 +58,14 @@ fn ours(table: &mut Table, event: Event, ends: &mut [i64]) -> Answer {
             Ok(OtherEnds::Fronts(ends)) => (ends.len() as i64, ends.map(|(link, n)| i64::from(link) ^ n.0).sum()),
             Err(refusal) => refused(refusal),
         },
+        Event::AskBy(link, number, publisher, time, timeout) => {
+            let asked = table.ask_by(link, FrontNumber(number), publisher, time, NonZeroU32::new(timeout));
+            asked.map_or_else(refused, |n| (n.0, 0))
+        }
+        Event::RunOut(time) => match table.run_out(time, ends) {
+            Ok(ends) => (ends.len() as i64, ends.map(|(link, n)| i64::from(link) ^ n.0).sum()),
+            Err(refusal) => refused(refusal),
+        },
     }
 }
 
@@ -72,7 +86,7 @@ fn second(table: &mut Second, event: Event, ends: &mut [i64]) -> Answer {
     match event.call(table, ends) {
         Ok(Ask(number)) => (number, 0),
         Ok(Reply((place, number)) | Cancel((place, number))) => (i64::from(place), number),
-        Ok(Gone(_, count)) => summed(count, ends),
+        Ok(Gone(_, count) | RunOut(count)) => summed(count, ends),
         Err(refusal) => (-i64::from(refusal.number()), 0),
     }
 }
@@ -90,6 +104,10 @@ fn by_maps(table: &mut TwoMaps, event: Event, ends: &mut [i64]) -> Answer {
             let gone = table.gone(side == Side::Publisher, number, ends);
             gone.map_or_else(refused, |count| summed(count, ends))
         }
+        Event::AskBy(link, number, publisher, time, timeout) => {
+            table.ask_by(link, number, publisher, time, timeout).map_or_else(refused, |number| (number, 0))
+        }
+        Event::RunOut(time) => table.run_out(time, ends).map_or_else(refused, |count| summed(count, ends)),
     }
 }
 
@@ -101,7 +119,9 @@ struct Plain {
 
 fn plain(table: &mut Plain, event: Event) -> Answer {
     match event {
-        Event::Ask(link, number, publisher) => {
+        // It knows no deadlines, and the mixed traffic has none.
+        Event::RunOut(_) => (0, 0),
+        Event::Ask(link, number, publisher) | Event::AskBy(link, number, publisher, ..) => {
             let Some(last) = table.last.get_mut(usize::from(publisher)) else { return (-30, 0) };
             *last += 1;
             table.requests.insert((publisher, *last), (link, number));
@@ -152,10 +172,12 @@ fn time(events: &[Event], mut call: impl FnMut(Event) -> Answer) -> f64 {
     start.elapsed().as_nanos() as f64 / events.len() as f64
 }
 
-/// Traffic of four kinds, with drops into slices that are too short, from a first number that soon wraps.
+/// Traffic of four kinds and one with deadlines, with drops into slices that are too short, from a first number that
+/// soon wraps.
 fn check(first: i64) {
     let mut generator = Generator::new(7);
-    for profile in [traffic::STEADY, traffic::CROWDED, traffic::MIXED, traffic::ROUGH] {
+    let timed = Profile { run_outs: 20, timed: 600, pace: Pace::Any, ..traffic::MIXED };
+    for profile in [traffic::STEADY, traffic::CROWDED, traffic::MIXED, traffic::ROUGH, timed] {
         let mut table = Table::new(PublisherNumber(first)).expect("a first number");
         let mut other = Second::fresh(first).expect("a first number");
         let mut maps = TwoMaps::new(first).expect("a first number");
@@ -203,7 +225,9 @@ fn main() {
         let [ours, second, plain] = [0, 1, 2].map(|i: usize| rounds[i][at]);
         println!("| {name} | {ours:.0} | {second:.0} ({:.2}) | {plain:.0} ({:.2}) |", second / ours, plain / ours);
     }
-    pairs::print(Freed::Oldest);
-    pairs::print(Freed::Random);
+    pairs::print(Freed::Oldest, false);
+    pairs::print(Freed::Random, false);
+    pairs::print(Freed::Random, true);
     gone::print();
+    deadlines::print();
 }

@@ -1,27 +1,33 @@
 //! A table of requests as one would write it by hand who keeps every rule: a hash map by each end of a request,
-//! eight loads and eight last numbers. It refuses as the library does, in the same order, and searches a map twice
-//! nowhere.
+//! a sorted map of deadlines, eight loads and eight last numbers. It refuses as the library does, in the same order,
+//! and searches a hash map twice nowhere. (A heap would leave the deadlines of answered requests behind, and could not
+//! count those that have come before it takes them out.)
 
 use std::collections::hash_map::Entry;
-use std::collections::HashMap;
+use std::collections::{BTreeMap, HashMap};
 
 /// A front link or a publisher, and a number.
 type End = (u8, i64);
 
-/// The other end of a request in flight, and when it was accepted.
+/// The other end of a request in flight, when it was accepted, and its deadline, if it has one.
 #[derive(Clone, Copy)]
 struct Accepted {
     front: End,
     stamp: u64,
+    deadline: Option<u64>,
 }
 
 #[derive(Clone)]
 pub struct TwoMaps {
     by_front: HashMap<End, End>,
     by_number: HashMap<End, Accepted>,
+    /// By deadline and stamp: the two ends.
+    deadlines: BTreeMap<(u64, u64), (End, End)>,
     loads: [usize; 8],
     last: [i64; 8],
     accepted: u64,
+    /// The latest time seen.
+    latest: u64,
 }
 
 fn after(number: i64) -> i64 {
@@ -36,13 +42,32 @@ impl TwoMaps {
         Ok(TwoMaps {
             by_front: HashMap::with_capacity(64),
             by_number: HashMap::with_capacity(64),
+            deadlines: BTreeMap::new(),
             loads: [0; 8],
             last: [first - 1; 8],
             accepted: 0,
+            latest: 0,
         })
     }
 
     pub fn ask(&mut self, link: u8, number: i64, publisher: u8) -> Result<i64, u8> {
+        self.accept(link, number, publisher, None)
+    }
+
+    pub fn ask_by(&mut self, link: u8, number: i64, publisher: u8, time: u64, timeout: u32) -> Result<i64, u8> {
+        let now = self.now(time)?;
+        let deadline = (timeout > 0).then(|| now + u64::from(timeout));
+        let given = self.accept(link, number, publisher, deadline)?;
+        self.latest = now;
+        Ok(given)
+    }
+
+    /// The latest time seen, with this one.
+    fn now(&self, time: u64) -> Result<u64, u8> {
+        if time < 1 << 62 { Ok(self.latest.max(time)) } else { Err(30) }
+    }
+
+    fn accept(&mut self, link: u8, number: i64, publisher: u8, deadline: Option<u64>) -> Result<i64, u8> {
         if link > 31 || publisher > 7 {
             return Err(30);
         }
@@ -57,7 +82,7 @@ impl TwoMaps {
         if self.loads[p] >= 4 && self.loads.iter().map(|&load| load.max(4)).sum::<usize>() == 64 {
             return Err(33);
         }
-        let accepted = Accepted { front: (link, number), stamp: self.accepted };
+        let accepted = Accepted { front: (link, number), stamp: self.accepted, deadline };
         let mut given = after(self.last[p]);
         loop {
             let Entry::Vacant(place) = self.by_number.entry((publisher, given)) else {
@@ -68,6 +93,9 @@ impl TwoMaps {
             break;
         }
         place.insert((publisher, given));
+        if let Some(deadline) = deadline {
+            self.deadlines.insert((deadline, self.accepted), ((link, number), (publisher, given)));
+        }
         self.loads[p] += 1;
         self.last[p] = given;
         self.accepted += 1;
@@ -81,10 +109,18 @@ impl TwoMaps {
         if number == 0 {
             return Err(12);
         }
-        let Accepted { front, .. } = self.by_number.remove(&(publisher, number)).ok_or(34)?;
-        self.by_front.remove(&front);
+        let accepted = self.by_number.remove(&(publisher, number)).ok_or(34)?;
+        self.by_front.remove(&accepted.front);
+        self.forget(publisher, accepted);
+        Ok(accepted.front)
+    }
+
+    /// What is left of a request that is in neither hash map any more.
+    fn forget(&mut self, publisher: u8, accepted: Accepted) {
+        if let Some(deadline) = accepted.deadline {
+            self.deadlines.remove(&(deadline, accepted.stamp));
+        }
         self.loads[usize::from(publisher)] -= 1;
-        Ok(front)
     }
 
     pub fn cancel(&mut self, link: u8, number: i64) -> Result<End, u8> {
@@ -95,8 +131,9 @@ impl TwoMaps {
             return Err(12);
         }
         let publisher = self.by_front.remove(&(link, number)).ok_or(34)?;
-        self.by_number.remove(&publisher);
-        self.loads[usize::from(publisher.0)] -= 1;
+        if let Some(accepted) = self.by_number.remove(&publisher) {
+            self.forget(publisher.0, accepted);
+        }
         Ok(publisher)
     }
 
@@ -126,9 +163,32 @@ impl TwoMaps {
             let (place, number) = wanted(front, publisher);
             end.copy_from_slice(&[place.into(), number]);
             self.by_front.remove(&front);
+            if let Some(accepted) = self.by_number.remove(&publisher) {
+                self.forget(publisher.0, accepted);
+            }
+        }
+        Ok(gone.len())
+    }
+
+    /// Frees the requests whose deadline has come, and writes their front ends, oldest first.
+    pub fn run_out(&mut self, time: u64, out: &mut [i64]) -> Result<usize, u8> {
+        let now = self.now(time)?;
+        let due = self.deadlines.range(..=(now, u64::MAX));
+        let mut due: Vec<_> = due.map(|(&(_, stamp), &(front, publisher))| (stamp, front, publisher)).collect();
+        if out.len() < 2 * due.len() {
+            return Err(16);
+        }
+        due.sort_unstable();
+        for (&(_, front, publisher), end) in due.iter().zip(out.chunks_exact_mut(2)) {
+            end.copy_from_slice(&[front.0.into(), front.1]);
+            self.by_front.remove(&front);
             self.by_number.remove(&publisher);
             self.loads[usize::from(publisher.0)] -= 1;
         }
-        Ok(gone.len())
+        for _ in &due {
+            self.deadlines.pop_first();
+        }
+        self.latest = now;
+        Ok(due.len())
     }
 }

@@ -48,7 +48,7 @@ enum {
     RELAY_VERSION_TOO_OLD = 24,         /* a Nonce's version is below the link's lowest */
     RELAY_PADDING_NOT_ZERO = 25,        /* a byte of the padding behind a packet is not 0 */
     RELAY_FOURTH_WORD = 26,             /* a fourth word of 4 before a packet */
-    RELAY_OUT_OF_RANGE = 30,            /* a link, publisher, first number or lowest version is out of range, or a
+    RELAY_OUT_OF_RANGE = 30,            /* a link, publisher, first number, time or lowest version is out of range, or a
                                            derivation's version is above 2 */
     RELAY_IN_FLIGHT_ALREADY = 31,       /* the link has a request in flight with this number */
     RELAY_LOAD_AT_LIMIT = 32,           /* the publisher has 16 requests in flight */
@@ -441,7 +441,8 @@ typedef struct relay_table {
                              publisher p's next number is looked for */
     uint8_t places[128];  /* i: the link in slot i; 64 + i: its publisher */
     uint8_t order[64];    /* i: slot i's place in the order of acceptance, 0 the oldest. What a slot that is not used
-                             has here, in numbers and in places means nothing */
+                             has here, in numbers, in places and in times means nothing */
+    uint64_t times[65];   /* i: the deadline of the request in slot i, 0 for none; 64: the latest time seen */
 } relay_table;
 
 /* Who is at the other end of a connection: a front link or a publisher, made by relay_front or relay_publisher. A type
@@ -461,7 +462,7 @@ static inline relay_peer relay_publisher(uint8_t publisher) {
     return peer;
 }
 
-/* Numbers in a slice that relay_gone never finds too short: two for each of 64 requests. */
+/* Numbers in a slice that relay_gone and relay_run_out never find too short: two for each of 64 requests. */
 #define RELAY_ALL_ENDS 128
 
 /* In the answers below, refusal is 0 where the call was not refused; the other fields are 0 where it was. A refused
@@ -490,30 +491,51 @@ typedef struct relay_dropped {
     size_t count;
 } relay_dropped;
 
-/* What the archive has: the same calls on the four members of one table, each lent by itself. A program has no use for
- * them; it makes the calls below, which lend a table's members where they stand and copy none. */
-uint8_t relay_fresh_lent(uint64_t masks[9], int64_t numbers[136], relay_publisher_number first);
+/* What the archive has: the same calls on the members of one table, each lent by itself. A program has no use for them;
+ * it makes the calls below, which lend a table's members where they stand and copy none. */
+uint8_t relay_fresh_lent(uint64_t masks[9], int64_t numbers[136], uint64_t times[65], relay_publisher_number first);
 relay_asked relay_ask_lent(uint64_t masks[9], int64_t numbers[136], uint8_t places[128], uint8_t order[64],
-                           uint8_t link, relay_front_number number, uint8_t publisher);
+                           uint64_t times[65], uint8_t link, relay_front_number number, uint8_t publisher,
+                           uint64_t time, uint32_t timeout);
 relay_replied relay_reply_lent(uint64_t masks[9], const int64_t numbers[136], const uint8_t places[128],
                                uint8_t order[64], uint8_t publisher, relay_publisher_number number);
 relay_cancelled relay_cancel_lent(uint64_t masks[9], const int64_t numbers[136], const uint8_t places[128],
                                   uint8_t order[64], uint8_t link, relay_front_number number);
 relay_dropped relay_gone_lent(uint64_t masks[9], const int64_t numbers[136], const uint8_t places[128],
                               uint8_t order[64], bool publisher, uint8_t number, int64_t *out, size_t n);
+relay_dropped relay_run_out_lent(uint64_t masks[9], const int64_t numbers[136], const uint8_t places[128],
+                                 uint8_t order[64], uint64_t times[65], uint64_t time, int64_t *out, size_t n);
 
-/* Makes an empty table of whatever stands there; first is the first number of every publisher. Answers 0, or 30 for a
- * first number below 1: all four members are then as they were, and what was no table before must not be used. */
+/* Makes an empty table of whatever stands there; first is the first number of every publisher. It has seen the time 0.
+ * Answers 0, or 30 for a first number below 1: all members are then as they were, and what was no table before must not
+ * be used. */
 static inline uint8_t relay_fresh(relay_table *table, relay_publisher_number first) {
-    return relay_fresh_lent(table->masks, table->numbers, first);
+    return relay_fresh_lent(table->masks, table->numbers, table->times, first);
 }
 
-/* Accepts a request; answers the number under which the publisher gets it, which is none that the publisher has in
- * flight. Refused with 30 for a link or publisher out of range, 12 for a number of 0, 31 where the link has the number
- * in flight, 32 where the publisher has 16 requests, and 33 where it has 4 or more and no room is left that is not kept
- * for the 4 of another. */
+/* Times and deadlines. The caller brings the present time, in milliseconds of any one clock, below 2^62: since a start,
+ * since 1970, as it likes. A table keeps the latest time that its calls have seen. If the clock goes back, that one
+ * counts in its place, so that a time far ahead, once seen, stays. Each call's own time is among those seen, but a
+ * refused call does not see its time.
+ *
+ * A request's deadline is the latest time seen when it was asked plus its timeout. The table reads no clock: a request
+ * past its deadline stays in flight, counts for the load, and may be replied to or cancelled, until relay_run_out is
+ * called. A driver calls it now and then, as often as a request may be late. */
+
+/* Accepts a request with a deadline: time is the present time, timeout in milliseconds; a timeout of 0 is none, and the
+ * request has no deadline. Answers the number under which the publisher gets it, which is none that the publisher has
+ * in flight. Refused with 30 for a link or publisher out of range or a time of 2^62 or more, 12 for a number of 0, 31
+ * where the link has the number in flight, 32 where the publisher has 16 requests, and 33 where it has 4 or more and no
+ * room is left that is not kept for the 4 of another. */
+static inline relay_asked relay_ask_by(relay_table *table, uint8_t link, relay_front_number number, uint8_t publisher,
+                                       uint64_t time, uint32_t timeout) {
+    return relay_ask_lent(table->masks, table->numbers, table->places, table->order, table->times, link, number,
+                          publisher, time, timeout);
+}
+
+/* The same of a request without a deadline, for a caller who has no clock at hand: it sees no time. */
 static inline relay_asked relay_ask(relay_table *table, uint8_t link, relay_front_number number, uint8_t publisher) {
-    return relay_ask_lent(table->masks, table->numbers, table->places, table->order, link, number, publisher);
+    return relay_ask_by(table, link, number, publisher, 0, 0);
 }
 
 /* Frees the request that a publisher replied to; answers its link and front number. Refused with 30 for a publisher out
@@ -539,6 +561,22 @@ static inline relay_cancelled relay_cancel(relay_table *table, uint8_t link, rel
 static inline relay_dropped relay_gone(relay_table *table, relay_peer peer, int64_t *out, size_t n) {
     return relay_gone_lent(table->masks, table->numbers, table->places, table->order, peer.publisher, peer.number, out,
                            n);
+}
+
+/* Deadlines that have come: frees all requests whose deadline is at or before the present time (the latest time seen,
+ * where the clock went back) and writes link and front number of each to the front of out, oldest accepted first, as
+ * for a lost publisher; out past them stays. Answers how many there were, which may be 0.
+ *
+ * It tells link and front number alone: under which number which publisher has the request is not known any more, so
+ * that it cannot be cancelled there, and a late reply to it is refused with 34. A driver that would cancel it at its
+ * publisher calls relay_run_out on a copy of the table first, and then relay_cancel on the table itself for each end
+ * that was written.
+ *
+ * Refused with 30 for a time of 2^62 or more, and 16 where out, n numbers long, has not two for each: RELAY_ALL_ENDS
+ * always do. With n of 0 it thus tells whether a deadline has come: 16 if one has, else it answers 0 and sees its time.
+ */
+static inline relay_dropped relay_run_out(relay_table *table, uint64_t time, int64_t *out, size_t n) {
+    return relay_run_out_lent(table->masks, table->numbers, table->places, table->order, table->times, time, out, n);
 }
 
 #ifdef __cplusplus

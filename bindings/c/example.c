@@ -35,6 +35,22 @@ static void gone(relay_table *table, relay_peer peer) {
     }
 }
 
+/* A request whose publisher hangs: it has a deadline, and the program runs it out. */
+static void deadline(relay_table *table, relay_front_number number) {
+    const uint64_t start = 5000; /* milliseconds of a clock of the program's own */
+    relay_asked asked = relay_ask_by(table, 5, number, 1, start, 250);
+    printf("asked with a deadline: publisher 1 gets it as %lld\n", (long long)asked.number.value);
+    int64_t ends[RELAY_ALL_ENDS];
+    for (uint64_t after = 249; after <= 250; after++) {
+        relay_dropped out = relay_run_out(table, start + after, ends, RELAY_ALL_ENDS);
+        printf("after %d ms: %d ran out\n", (int)after, (int)out.count);
+        for (size_t i = 0; i < out.count; i++) {
+            printf("link %lld, number %lld\n", (long long)ends[2 * i], (long long)ends[2 * i + 1]);
+        }
+    }
+    printf("replied too late: %d\n", relay_reply(table, 1, asked.number).refusal);
+}
+
 /* Requests under one front number, and how each of them ends. */
 static int requests(relay_front_number number) {
     relay_publisher_number first = {1};
@@ -54,6 +70,7 @@ static int requests(relay_front_number number) {
     relay_ask(&table, 7, number, 2);
     gone(&table, relay_publisher(7));
     gone(&table, relay_front(7));
+    deadline(&table, number);
     return 0;
 }
 

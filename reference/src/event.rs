@@ -1,6 +1,6 @@
 //! The events of the relay walk: their bytes, and the table's answer to each.
 
-use crate::numbers::read_i64;
+use crate::numbers::{read_i64, read_u32, read_u64};
 use crate::refusal::Refusal;
 use crate::table::{End, Side, Table};
 use std::io::{self, BufRead, ErrorKind, Read};
@@ -15,25 +15,32 @@ pub enum Event {
     Cancel(u8, i64),
     /// The side and number of a peer: a link closed, or a publisher lost.
     Gone(Side, u8),
+    /// Link, front number, publisher, time, timeout (0 for none).
+    AskBy(u8, i64, u8, u64, u32),
+    /// Time.
+    RunOut(u64),
 }
 
-/// What the table hands back; a gone peer gives its side and a count, and the
-/// other ends stand in the slice that was lent.
+/// What the table hands back; a gone peer gives its side and a count, a run-out
+/// its count, and the other ends stand in the slice that was lent.
 #[derive(Clone, Copy, Debug, PartialEq, Eq)]
 pub enum Answer {
     Ask(i64),
     Reply(End),
     Cancel(End),
     Gone(Side, usize),
+    RunOut(usize),
 }
 
-const LONGEST_BODY: usize = 10;
+const LONGEST_BODY: usize = 22;
 
 fn body_length(kind: u8) -> Option<usize> {
     match kind {
         1 => Some(10),
         2 | 3 => Some(9),
         4 | 5 => Some(1),
+        6 => Some(22),
+        7 => Some(8),
         _ => None,
     }
 }
@@ -65,7 +72,12 @@ impl Event {
             2 => Event::Reply(body[0], number),
             3 => Event::Cancel(body[0], number),
             4 => Event::Gone(Side::Front, body[0]),
-            _ => Event::Gone(Side::Publisher, body[0]),
+            5 => Event::Gone(Side::Publisher, body[0]),
+            6 => {
+                let (time, timeout) = (read_u64(body, 10), read_u32(body, 18));
+                Event::AskBy(body[0], number, body[9], time, timeout)
+            }
+            _ => Event::RunOut(read_u64(body, 0)),
         }
     }
 
@@ -82,6 +94,16 @@ impl Event {
             Event::Reply(publisher, number) => put(2, publisher, &number.to_le_bytes()),
             Event::Cancel(link, number) => put(3, link, &number.to_le_bytes()),
             Event::Gone(side, number) => put(side.of(4, 5), number, &[]),
+            Event::AskBy(link, number, publisher, time, timeout) => {
+                put(6, link, &number.to_le_bytes());
+                bytes.push(publisher);
+                bytes.extend(time.to_le_bytes());
+                bytes.extend(timeout.to_le_bytes());
+            }
+            Event::RunOut(time) => {
+                bytes.push(7);
+                bytes.extend(time.to_le_bytes());
+            }
         }
     }
 
@@ -97,6 +119,11 @@ impl Event {
                 let count = table.gone(side, number, ends);
                 count.map(|count| Answer::Gone(side, count))
             }
+            Event::AskBy(link, number, publisher, time, timeout) => {
+                let accepted = table.ask_by(link, number, publisher, time, timeout);
+                accepted.map(Answer::Ask)
+            }
+            Event::RunOut(time) => table.run_out(time, ends).map(Answer::RunOut),
         }
     }
 }
@@ -105,12 +132,14 @@ impl Event {
 mod tests {
     use super::*;
 
-    const EVENTS: [Event; 5] = [
+    const EVENTS: [Event; 7] = [
         Event::Ask(3, i64::MIN, 7),
         Event::Reply(255, 0x0102_0304_0506_0708),
         Event::Cancel(0, -2),
         Event::Gone(Side::Front, 31),
         Event::Gone(Side::Publisher, 8),
+        Event::AskBy(31, -2, 7, 0x0102_0304_0506_0708, 0x8090_A0B0),
+        Event::RunOut(0xF1F2_F3F4_F5F6_F7F8),
     ];
 
     #[test]
@@ -125,6 +154,17 @@ mod tests {
         assert_eq!(bytes_of(EVENTS[2])[..3], [3, 0, 0xfe]);
         assert_eq!(bytes_of(EVENTS[3]), [4, 31]);
         assert_eq!(bytes_of(EVENTS[4]), [5, 8]);
+        let ask_by = bytes_of(EVENTS[5]);
+        assert_eq!(
+            ask_by[..11],
+            [6, 31, 0xfe, 255, 255, 255, 255, 255, 255, 255, 7]
+        );
+        assert_eq!(
+            ask_by[11..],
+            [8, 7, 6, 5, 4, 3, 2, 1, 0xb0, 0xa0, 0x90, 0x80]
+        );
+        let run_out = [7, 0xf8, 0xf7, 0xf6, 0xf5, 0xf4, 0xf3, 0xf2, 0xf1];
+        assert_eq!(bytes_of(EVENTS[6]), run_out);
     }
 
     #[test]
@@ -148,8 +188,8 @@ mod tests {
                 assert_eq!(read, Some(Err(Refusal::BadEvent)));
             }
         }
-        for kind in (0..=0).chain(6..=255) {
-            let read = Event::read(&mut &[kind; 20][..]).unwrap();
+        for kind in (0..=0).chain(8..=255) {
+            let read = Event::read(&mut &[kind; 40][..]).unwrap();
             assert_eq!(read, Some(Err(Refusal::BadEvent)));
         }
     }

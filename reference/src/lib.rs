@@ -4,6 +4,7 @@
 
 pub mod checksum;
 pub mod cipher;
+pub mod clock;
 pub mod event;
 pub mod generator;
 pub mod hash;

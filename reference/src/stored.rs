@@ -64,6 +64,7 @@ mod walk_long;
 mod walk_play;
 mod walk_scripts;
 mod walk_slots;
+mod walk_time;
 mod wire_cases;
 
 use std::fs;

@@ -1,7 +1,8 @@
 //! The table of requests in flight ("ticket table" in document 01).
 //!
 //! A request is found by either of its ends through a hash map; its serial
-//! number gives the order of acceptance, by which a gone peer's are listed.
+//! number gives the order of acceptance, by which a gone peer's are listed, and
+//! those that ran out.
 
 #[cfg(test)]
 pub(crate) mod book;
@@ -19,6 +20,8 @@ pub const ROOM: usize = 64;
 const RESERVED: usize = 4;
 /// What no publisher may exceed.
 const LARGEST_LOAD: usize = 16;
+/// Times are below this (document 02, A2).
+const TIME_END: u64 = 1 << 62;
 
 /// One end of a request: a front link and its number, or a publisher and its.
 pub type End = (u8, i64);
@@ -58,10 +61,20 @@ pub struct Request {
     pub front: End,
     /// Publisher and publisher number.
     pub publisher: End,
+    deadline: Option<u64>,
     serial: u64,
 }
 
 impl Request {
+    /// The time at which it may be run out, if there is one.
+    pub fn deadline(&self) -> Option<u64> {
+        self.deadline
+    }
+
+    fn runs_out_by(&self, time: u64) -> bool {
+        self.deadline.is_some_and(|deadline| deadline <= time)
+    }
+
     fn end(&self, side: Side) -> End {
         side.of(self.front, self.publisher)
     }
@@ -77,6 +90,8 @@ pub struct Table {
     /// Where each publisher's search for its next number begins.
     next: [i64; PUBLISHERS as usize],
     accepted: u64,
+    /// Of all times that calls which were not refused have brought.
+    latest_time: u64,
 }
 
 impl Table {
@@ -93,21 +108,31 @@ impl Table {
             loads: [0; PUBLISHERS as usize],
             next: [first; PUBLISHERS as usize],
             accepted: 0,
+            latest_time: 0,
         })
     }
 
-    /// Accepts a request; hands back its publisher number.
+    /// Accepts a request that never runs out; hands back its publisher number.
     pub fn ask(&mut self, link: u8, number: i64, publisher: u8) -> Result<i64, Refusal> {
-        in_range(link, LINKS)?;
-        in_range(publisher, PUBLISHERS)?;
-        not_zero(number)?;
-        if self.by_front.contains_key(&(link, number)) {
-            return Err(Refusal::InFlightAlready);
-        }
-        self.has_room(publisher)?;
-        let publisher_number = self.take_number(publisher);
-        self.insert((link, number), (publisher, publisher_number));
-        Ok(publisher_number)
+        self.may_ask(link, number, publisher)?;
+        Ok(self.accept((link, number), publisher, None))
+    }
+
+    /// As `ask`, at a time in ms and with a timeout, for none 0.
+    pub fn ask_by(
+        &mut self,
+        link: u8,
+        number: i64,
+        publisher: u8,
+        time: u64,
+        timeout: u32,
+    ) -> Result<i64, Refusal> {
+        let now = self.latest_with(time)?;
+        self.may_ask(link, number, publisher)?;
+        self.latest_time = now;
+        // A sum below 2^62 + 2^32.
+        let deadline = (timeout > 0).then(|| now + u64::from(timeout));
+        Ok(self.accept((link, number), publisher, deadline))
     }
 
     /// Frees the request a publisher answered; hands back its front end.
@@ -134,14 +159,23 @@ impl Table {
     pub fn gone(&mut self, side: Side, number: u8, ends: &mut [i64]) -> Result<usize, Refusal> {
         in_range(number, side.peers())?;
         let slots = self.oldest_first(|request| request.end(side).0 == number);
-        if ends.len() / 2 < slots.len() {
-            return Err(Refusal::BufferTooSmall);
-        }
-        for (&slot, pair) in slots.iter().zip(ends.chunks_exact_mut(2)) {
-            let (peer, number) = self.remove(slot).end(side.other());
-            pair.copy_from_slice(&[i64::from(peer), number]);
-        }
-        Ok(slots.len())
+        self.free_all(&slots, side.other(), ends)
+    }
+
+    /// Frees all requests whose deadline is at or before the latest time seen,
+    /// `time` among them, oldest accepted first; writes their front ends, and
+    /// hands back how many they were.
+    pub fn run_out(&mut self, time: u64, ends: &mut [i64]) -> Result<usize, Refusal> {
+        let now = self.latest_with(time)?;
+        let slots = self.oldest_first(|request| request.runs_out_by(now));
+        let count = self.free_all(&slots, Side::Front, ends)?;
+        self.latest_time = now;
+        Ok(count)
+    }
+
+    /// The latest time seen; 0 if none was.
+    pub fn latest_time(&self) -> u64 {
+        self.latest_time
     }
 
     /// The requests in flight, in no particular order.
@@ -151,6 +185,26 @@ impl Table {
 
     pub fn count(&self) -> usize {
         ROOM - self.free.len()
+    }
+
+    /// The latest time seen once `time` is among those seen.
+    fn latest_with(&self, time: u64) -> Result<u64, Refusal> {
+        if time < TIME_END {
+            Ok(self.latest_time.max(time))
+        } else {
+            Err(Refusal::OutOfRange)
+        }
+    }
+
+    /// Every row that refuses an ask, but for its time.
+    fn may_ask(&self, link: u8, number: i64, publisher: u8) -> Result<(), Refusal> {
+        in_range(link, LINKS)?;
+        in_range(publisher, PUBLISHERS)?;
+        not_zero(number)?;
+        if self.by_front.contains_key(&(link, number)) {
+            return Err(Refusal::InFlightAlready);
+        }
+        self.has_room(publisher)
     }
 
     /// The room rule of demand 3. A publisher under its reserve always has
@@ -181,7 +235,14 @@ impl Table {
         number
     }
 
-    fn insert(&mut self, front: End, publisher: End) {
+    /// Takes in a request that may be asked; hands back its publisher number.
+    fn accept(&mut self, front: End, publisher: u8, deadline: Option<u64>) -> i64 {
+        let number = self.take_number(publisher);
+        self.insert(front, (publisher, number), deadline);
+        number
+    }
+
+    fn insert(&mut self, front: End, publisher: End, deadline: Option<u64>) {
         // The room rule never lets the loads add up to more than the slots.
         let slot = self.free.pop().expect("a free slot");
         let serial = self.accepted;
@@ -189,6 +250,7 @@ impl Table {
         self.slots[slot] = Some(Request {
             front,
             publisher,
+            deadline,
             serial,
         });
         self.by_front.insert(front, slot);
@@ -203,6 +265,24 @@ impl Table {
         self.by_publisher.remove(&request.publisher);
         self.loads[usize::from(request.publisher.0)] -= 1;
         request
+    }
+
+    /// Frees the requests in `slots` and writes their ends of one side, if the
+    /// slice has room for all; hands back how many they were.
+    fn free_all(
+        &mut self,
+        slots: &[usize],
+        side: Side,
+        ends: &mut [i64],
+    ) -> Result<usize, Refusal> {
+        if ends.len() / 2 < slots.len() {
+            return Err(Refusal::BufferTooSmall);
+        }
+        for (&slot, pair) in slots.iter().zip(ends.chunks_exact_mut(2)) {
+            let (peer, number) = self.remove(slot).end(side);
+            pair.copy_from_slice(&[i64::from(peer), number]);
+        }
+        Ok(slots.len())
     }
 
     /// The slots of the requests chosen, in the order of acceptance.

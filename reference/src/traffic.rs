@@ -1,6 +1,7 @@
 //! Random but sensible events for a table: replies and cancels that mostly
 //! match what is in flight, and a share that is to be refused.
 
+use crate::clock::{self, Clock, Pace};
 use crate::event::Event;
 use crate::generator::Generator;
 use crate::table::{Request, Side, Table, LINKS, PUBLISHERS};
@@ -19,6 +20,11 @@ pub struct Profile {
     pub enough: usize,
     /// How many publishers get three quarters of the asks.
     pub favourites: u64,
+    pub run_outs: u64,
+    /// How many of 1000 asks bring a time.
+    pub timed: u64,
+    /// Of the clock that times are taken from.
+    pub pace: Pace,
 }
 
 /// For benchmarks: nearly all events are asks that are accepted and replies.
@@ -30,6 +36,9 @@ pub const STEADY: Profile = Profile {
     strays: 20,
     enough: 40,
     favourites: 8,
+    run_outs: 0,
+    timed: 0,
+    pace: Pace::Stands,
 };
 
 /// The table stays full, so that every kind of room is fought for.
@@ -41,6 +50,9 @@ pub const CROWDED: Profile = Profile {
     strays: 50,
     enough: usize::MAX,
     favourites: 3,
+    run_outs: 0,
+    timed: 0,
+    pace: Pace::Stands,
 };
 
 /// Loads go up and down around the reserve.
@@ -52,6 +64,9 @@ pub const MIXED: Profile = Profile {
     strays: 60,
     enough: usize::MAX,
     favourites: 4,
+    run_outs: 0,
+    timed: 0,
+    pace: Pace::Stands,
 };
 
 /// Links and publishers come and go, much is refused.
@@ -63,11 +78,28 @@ pub const ROUGH: Profile = Profile {
     strays: 200,
     enough: usize::MAX,
     favourites: 1,
+    run_outs: 0,
+    timed: 0,
+    pace: Pace::Stands,
 };
+
+impl Profile {
+    /// The same with times: one of 30 events is a run-out, and most asks bring
+    /// a time.
+    pub fn by_clock(self, pace: Pace) -> Profile {
+        Profile {
+            run_outs: 33,
+            timed: 800,
+            pace,
+            ..self
+        }
+    }
+}
 
 pub struct Traffic {
     generator: Generator,
     profile: Profile,
+    clock: Clock,
     /// Each link's last front number.
     last: [i64; LINKS as usize],
 }
@@ -77,18 +109,46 @@ impl Traffic {
         Traffic {
             generator: Generator::new(seed),
             profile,
+            clock: Clock::new(0, profile.pace),
             last: std::array::from_fn(start),
         }
     }
 
     /// An event that suits what is in flight in `table`.
     pub fn event(&mut self, table: &Table) -> Event {
+        let event = self.event_without_time(table);
+        match event {
+            Event::Ask(link, number, publisher) if self.is_timed() => {
+                let time = self.time();
+                let timeout = clock::timeout(&mut self.generator);
+                Event::AskBy(link, number, publisher, time, timeout)
+            }
+            _ => event,
+        }
+    }
+
+    fn is_timed(&mut self) -> bool {
+        self.profile.timed > 0 && self.generator.below(1000) < self.profile.timed
+    }
+
+    /// Few of these are refused.
+    fn time(&mut self) -> u64 {
+        let time = self.clock.tick(&mut self.generator);
+        match self.generator.below(40) {
+            0 => clock::beyond(&mut self.generator),
+            _ => time,
+        }
+    }
+
+    /// Asks bring no time yet.
+    fn event_without_time(&mut self, table: &Table) -> Event {
         let Profile {
             replies,
             cancels,
             closed,
             lost,
             strays,
+            run_outs,
             ..
         } = self.profile;
         let mut roll = self.generator.below(1000);
@@ -101,6 +161,8 @@ impl Traffic {
             Event::Gone(Side::Front, self.link())
         } else if falls_in(lost) {
             Event::Gone(Side::Publisher, self.publisher())
+        } else if falls_in(run_outs) {
+            Event::RunOut(self.time())
         } else if falls_in(strays) {
             self.stray(table)
         } else if falls_in(cancels) {

@@ -45,6 +45,7 @@ fn write_answer(output: &mut impl Write, answer: Answer, ends: &[i64]) -> io::Re
         Answer::Gone(side, count) => {
             write_drops(output, side.of("closed", "lost"), &ends[..2 * count])
         }
+        Answer::RunOut(count) => write_drops(output, "out", &ends[..2 * count]),
     }
 }
 
@@ -77,8 +78,9 @@ mod tests {
 
     #[test]
     fn a_bad_event_stops_the_walk() {
-        assert_eq!(lines(&[4, 0, 6, 4, 0]), "closed 0\nno 35\n");
+        assert_eq!(lines(&[4, 0, 8, 4, 0]), "closed 0\nno 35\n");
         assert_eq!(lines(&[5, 0, 2, 0, 1]), "lost 0\nno 35\n");
+        assert_eq!(lines(&[4, 0, 7, 0, 1]), "closed 0\nno 35\n");
     }
 
     #[test]
@@ -91,7 +93,19 @@ mod tests {
     }
 
     #[test]
+    fn an_ask_by_prints_as_an_ask_and_a_run_out_prints_out() {
+        let run_out = |time: u8| [7, time, 0, 0, 0, 0, 0, 0, 0];
+        let ask_by = [
+            6, 3, 77, 0, 0, 0, 0, 0, 0, 0, 5, 9, 0, 0, 0, 0, 0, 0, 0, 2, 0, 0, 0,
+        ];
+        let events = [&ask_by[..], &run_out(10), &run_out(11), &run_out(12)].concat();
+        assert_eq!(lines(&events), "ask 1\nout 0\nout 1\ndrop 3 77\nout 0\n");
+    }
+
+    #[test]
     fn other_refusals_do_not() {
         assert_eq!(lines(&[4, 32, 5, 8, 5, 7]), "no 30\nno 30\nlost 0\n");
+        let run_out = [7, 0, 0, 0, 0, 0, 0, 0, 64, 5, 7];
+        assert_eq!(lines(&run_out), "no 30\nlost 0\n");
     }
 }

@@ -77,7 +77,7 @@ refusals! {
     PADDING_NOT_ZERO = 25, "a byte of the padding behind a packet is not 0";
     FOURTH_WORD = 26, "a fourth word of 4 before a packet";
     OUT_OF_RANGE = 30,
-        "a link, publisher, first number, lowest version or derivation's version is out of range";
+        "a link, publisher, first number, time, lowest or derivation's version is out of range";
     IN_FLIGHT_ALREADY = 31, "the link has a request in flight with this number";
     LOAD_AT_LIMIT = 32, "the publisher has 16 requests in flight";
     CAPACITY_GONE = 33, "what is left of the 64 places is reserved for other publishers";

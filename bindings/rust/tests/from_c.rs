@@ -41,6 +41,11 @@ replied: to link 3, number 77
 cancelled too late: 34
 publisher 7 gone: link 4, number 77
 link 7 gone: publisher 2, number 1
+asked with a deadline: publisher 1 gets it as 1
+after 249 ms: 0 ran out
+after 250 ms: 1 ran out
+link 5, number 77
+replied too late: 34
 ";
     assert_eq!(printed("example", &[]), expected);
 }

@@ -11,6 +11,7 @@ use relay::{
     ToSend,
 };
 use std::collections::BTreeSet;
+use std::num::NonZeroU32;
 
 const NOW: Moment = Moment { time: 0 };
 const SIDES: [Side; 2] = [Side::Client, Side::Server];
@@ -245,8 +246,17 @@ fn numbers_out_of_any_range_at_the_table() {
         let _ = table.ask(a % 40, FrontNumber(number), b % 10);
         let _ = table.reply(a % 10, PublisherNumber(number));
         let _ = table.cancel(a % 40, FrontNumber(number));
+        let room = usize::from(a % 8);
         for peer in [Peer::Front(b), Peer::Publisher(b)] {
-            let _ = table.gone(peer, &mut out[..usize::from(a % 8)]).map(drop);
+            let _ = table.gone(peer, &mut out[..room]).map(drop);
+        }
+        let time = random.next() >> random.below(64);
+        let timeout = NonZeroU32::new(random.next() as u32 >> random.below(32));
+        let asked = table.ask_by(a % 40, FrontNumber(number), b % 10, time, timeout);
+        let ran_out = table.run_out(time, &mut out[..room]).map(drop);
+        if time >= 1 << 62 {
+            assert_eq!(asked, Err(Refusal::OUT_OF_RANGE));
+            assert_eq!(ran_out, Err(Refusal::OUT_OF_RANGE));
         }
     }
 }

@@ -151,11 +151,12 @@ AT(relay_front_number, value, 0)
 SIZE(relay_publisher_number, 8)
 AT(relay_publisher_number, value, 0)
 
-SIZE(relay_table, 1352)
+SIZE(relay_table, 1872)
 AT(relay_table, masks, 0)
 AT(relay_table, numbers, 72)
 AT(relay_table, places, 1160)
 AT(relay_table, order, 1288)
+AT(relay_table, times, 1352)
 
 SIZE(relay_asked, 16)
 AT(relay_asked, refusal, 0)

@@ -6,6 +6,7 @@ mod random;
 
 use random::Random;
 use relay::{raw, FrontNumber, OtherEnds, Peer, PublisherNumber, Table, ALL_ENDS};
+use std::num::NonZeroU32;
 
 /// The places of the used slots are those from 0 on, each once.
 fn has_every_place_once(raw: &raw::Table) {
@@ -74,6 +75,7 @@ fn garbage_never_panics() {
         raw.numbers = std::array::from_fn(|_| spread(&mut random) as i64 % 4);
         raw.places = std::array::from_fn(|_| spread(&mut random) as u8 % 40);
         raw.order = random.bytes(64).try_into().unwrap();
+        raw.times = std::array::from_fn(|_| random.next() >> random.below(64));
         let (a, b) = (random.below(34) as u8, random.below(9) as u8);
         let number = random.below(5) as i64 - 1;
         let _ = table.ask(a, FrontNumber(number), b);
@@ -84,6 +86,13 @@ fn garbage_never_panics() {
             .gone(Peer::Publisher(b), &mut out[..room])
             .map(counted);
         assert!(lost.is_err() || 2 * lost.unwrap() <= room);
+        let time = random.next() >> random.below(64);
+        let timeout = NonZeroU32::new(random.next() as u32);
+        let _ = table.ask_by(a, FrontNumber(number), b, time, timeout);
+        let ran_out = table
+            .run_out(time, &mut out[..room])
+            .map(|ends| ends.count());
+        assert!(ran_out.is_err() || 2 * ran_out.unwrap() <= room);
         let closed = table.gone(Peer::Front(a), &mut out).map(counted);
         assert_eq!(closed.is_ok(), a < 32);
     }

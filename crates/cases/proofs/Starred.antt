@@ -162,7 +162,7 @@ record Reads (w : Table) (m : Model) : Type 0 where
   model : modelOf w ≡ m
 
 sized : Sized zeros
-sized = record { masks = refl; numbers = refl; places = refl; order = refl }
+sized = record { masks = refl; numbers = refl; places = refl; order = refl; times = refl }
 
 ranged : Ranged (record { 0 = pos 1 })
 ranged = record { at = 1; is = refl; low = lit< tt; high = lit≤ }
@@ -189,11 +189,11 @@ answerOf (H.cancelled a) = A.Refused 0
 answerOf (H.dropped a out) = A.Refused 0
 
 asked-as : (w : Table) (m : Model) → Reads w m → (p n : ℕ)
-    → asked w p n ≡ ofAsk (askAnswer m p (record { 0 = pos n }) p)
+    → asked w p n ≡ ofAsk (askAnswer m p (record { 0 = pos n }) p 0)
 unfolding answerOf
 asked-as w m r p n =
-    ap (λ (h : Heard). ofAsk (answerOf h)) (same-call w (H.ask p (record { 0 = pos n }) p) (r .good) .answer)
-    ∙ ap (λ (x : Model). ofAsk (askAnswer x p (record { 0 = pos n }) p)) (r .model)
+    ap (λ (h : Heard). ofAsk (answerOf h)) (same-call w (H.ask p (record { 0 = pos n }) p 0 0) (r .good) .answer)
+    ∙ ap (λ (x : Model). ofAsk (askAnswer x p (record { 0 = pos n }) p 0)) (r .model)
 
 abbrev modelLoads : Model → Outcome
 modelLoads m =
@@ -249,7 +249,7 @@ filled-loads = refl
 loads-filled : loadsOf filled ≡ loads (16 ∷ 16 ∷ 12 ∷ 0 ∷ 0 ∷ 0 ∷ 0 ∷ 0 ∷ [])
 loads-filled = loads-as filled filledModel filled-reads ∙ filled-loads
 
-third-model : ofAsk (askAnswer filledModel 2 (record { 0 = pos 13 }) 2) ≡ refused 33
+third-model : ofAsk (askAnswer filledModel 2 (record { 0 = pos 13 }) 2 0) ≡ refused 33
 unfolding filledModel same after matches matching without sumBelow nextFree askRefusal accept askAnswer M.ask empty
     modelAt asks
 third-model = refl
@@ -257,7 +257,7 @@ third-model = refl
 third-refused : asked filled 2 13 ≡ refused 33
 third-refused = asked-as filled filledModel filled-reads 2 13 ∙ third-model
 
-fourth-model : ofAsk (askAnswer filledModel 3 (record { 0 = pos 1 }) 3) ≡ accepted (pos 1)
+fourth-model : ofAsk (askAnswer filledModel 3 (record { 0 = pos 1 }) 3 0) ≡ accepted (pos 1)
 unfolding filledModel same after matches matching without sumBelow nextFree askRefusal accept askAnswer M.ask empty
     modelAt asks
 fourth-model = refl
@@ -265,7 +265,7 @@ fourth-model = refl
 fourth-accepted : asked filled 3 1 ≡ accepted (pos 1)
 fourth-accepted = asked-as filled filledModel filled-reads 3 1 ∙ fourth-model
 
-load-16-model : ofAsk (askAnswer filledModel 0 (record { 0 = pos 17 }) 0) ≡ refused 32
+load-16-model : ofAsk (askAnswer filledModel 0 (record { 0 = pos 17 }) 0 0) ≡ refused 32
 unfolding filledModel same after matches matching without sumBelow nextFree askRefusal accept askAnswer M.ask empty
     modelAt asks
 load-16-model = refl
@@ -281,7 +281,7 @@ fuller-loads = refl
 loads-fuller : loadsOf fuller ≡ loads (16 ∷ 16 ∷ 12 ∷ 4 ∷ 0 ∷ 0 ∷ 0 ∷ 0 ∷ [])
 loads-fuller = loads-as fuller fullerModel fuller-reads ∙ fuller-loads
 
-fifth-model : ofAsk (askAnswer fullerModel 3 (record { 0 = pos 5 }) 3) ≡ refused 33
+fifth-model : ofAsk (askAnswer fullerModel 3 (record { 0 = pos 5 }) 3 0) ≡ refused 33
 unfolding fullerModel filledModel same after matches matching without sumBelow nextFree askRefusal accept askAnswer
     M.ask empty modelAt asks
 fifth-model = refl
@@ -290,7 +290,7 @@ fifth-refused : asked fuller 3 5 ≡ refused 33
 fifth-refused = asked-as fuller fullerModel fuller-reads 3 5 ∙ fifth-model
 
 cancelled-model :
-    ofAsk (askAnswer (modelAt fullerModel (H.cancel 0 (record { 0 = pos 1 }) ∷ [])) 3 (record { 0 = pos 5 }) 3)
+    ofAsk (askAnswer (modelAt fullerModel (H.cancel 0 (record { 0 = pos 1 }) ∷ [])) 3 (record { 0 = pos 5 }) 3 0)
     ≡ accepted (pos 5)
 unfolding fullerModel filledModel takeRefusal taken same after matches matching without sumBelow nextFree askRefusal
     accept askAnswer M.ask empty modelAt asks

@@ -21,7 +21,7 @@ use Rattle.message.specs.ReadMessage.{readMessage}
 use Rattle.message.specs.declared.Message.the-variants as M
 use Rattle.inflight.specs.Tables.{Table, loadOf, askOf}
 use Rattle.inflight.specs.Tables as Tables
-use Rattle.inflight.specs.Calls.{Call, ask, cancel, tableAt}
+use Rattle.inflight.specs.Calls.{Call, oldAsk, cancel, tableAt}
 use Rattle.cases.specs.Outcome.{Outcome, refused, packet, number, text, means, loads, accepted, ofArrival, ofText, ofMessage, ofAsk, Case}
 
 -- a row: what our definitions give is what document 01 says
@@ -98,12 +98,18 @@ invoke s = ofMessage s (readMessage Server 0x2374df3d s)
 -- n asks for publisher p, from link p, with the front numbers 1 to n
 unfoldable pub asks : ℕ → ℕ → List Call
 asks p zero = []
-asks p (suc n) = asks p n ++ ask p (record { 0 = pos (suc n) }) p ∷ []
+asks p (suc n) = asks p n ++ oldAsk p (record { 0 = pos (suc n) }) p ∷ []
 
 -- a table that was never used
 abbrev pub zeros : Table
 zeros =
-    record { masks = replicate 9 0; numbers = replicate 136 (pos 0); places = replicate 128 0; order = replicate 64 0 }
+    record {
+      masks = replicate 9 0;
+      numbers = replicate 136 (pos 0);
+      places = replicate 128 0;
+      order = replicate 64 0;
+      times = replicate 65 0;
+    }
 
 -- 16 asks for the first publisher, 16 for the second, 12 for the third
 abbrev pub filling : List Call
@@ -119,7 +125,7 @@ fuller = tableAt filled (asks 3 4)
 
 -- an ask of link p for publisher p, with this front number
 abbrev pub asked : Table → ℕ → ℕ → Outcome
-asked t p n = ofAsk (askOf t p (record { 0 = pos n }) p .answer)
+asked t p n = ofAsk (askOf t p (record { 0 = pos n }) p 0 0 .answer)
 
 -- the loads of the eight publishers in a table: the ones of their masks
 abbrev pub loadsOf : Table → Outcome

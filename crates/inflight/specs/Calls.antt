@@ -15,32 +15,40 @@ use Rattle.inflight.specs.declared.ReplyAnswer.{ReplyAnswer}
 use Rattle.inflight.specs.declared.CancelAnswer.{CancelAnswer}
 use Rattle.inflight.specs.declared.DropAnswer.{DropAnswer}
 
--- a call with its arguments; gone, which stands for closed and lost, with the slice that it is lent
+-- a call with its arguments; an ask's are link, number, publisher, time and timeout.
+-- Gone, which stands for closed and lost, and run out, which brings its time, with the slice that they are lent
 pub data Call : Type 0 where
-  ask : ℕ → FrontNumber → ℕ → Call
+  ask : ℕ → FrontNumber → ℕ → ℕ → ℕ → Call
   reply : ℕ → PublisherNumber → Call
   cancel : ℕ → FrontNumber → Call
   gone : Peer → List ℤ → Call
+  runOut : ℕ → List ℤ → Call
 
--- what a call hands back; of gone also the whole slice afterwards
+-- an old ask: "old asks have no deadline", and see no time
+abbrev pub oldAsk : ℕ → FrontNumber → ℕ → Call
+oldAsk l n p = ask l n p 0 0
+
+-- what a call hands back; of gone and run out also the whole slice afterwards
 pub data Heard : Type 0 where
   asked : AskAnswer → Heard
   replied : ReplyAnswer → Heard
   cancelled : CancelAnswer → Heard
   dropped : DropAnswer → List ℤ → Heard
 
--- the table: what the contracts of the four functions say
+-- the table: what the contracts of the five functions say
 abbrev pub tableHeard : Table → Call → Heard
-tableHeard t (ask l n p) = asked (T.askOf t l n p .answer)
+tableHeard t (ask l n p time timeout) = asked (T.askOf t l n p time timeout .answer)
 tableHeard t (reply p n) = replied (T.replyOf t p n .answer)
 tableHeard t (cancel l n) = cancelled (T.cancelOf t l n .answer)
 tableHeard t (gone peer out) = dropped (T.goneOf t peer out .answer) (T.goneOf t peer out .slice)
+tableHeard t (runOut time out) = dropped (T.runOutOf t time out .answer) (T.runOutOf t time out .slice)
 
 abbrev pub tableAfter : Table → Call → Table
-tableAfter t (ask l n p) = T.askOf t l n p .table
+tableAfter t (ask l n p time timeout) = T.askOf t l n p time timeout .table
 tableAfter t (reply p n) = T.replyOf t p n .table
 tableAfter t (cancel l n) = T.cancelOf t l n .table
 tableAfter t (gone peer out) = T.goneOf t peer out .table
+tableAfter t (runOut time out) = T.runOutOf t time out .table
 
 unfoldable pub tableRun : Table → List Call → List Heard
 tableRun t [] = []
@@ -53,16 +61,18 @@ tableAt t (c ∷ cs) = tableAt (tableAfter t c) cs
 
 -- the model: "what our rules give with the book's entries as the tickets"
 abbrev pub modelHeard : Model → Call → Heard
-modelHeard m (ask l n p) = asked (M.askAnswer m l n p)
+modelHeard m (ask l n p time timeout) = asked (M.askAnswer m l n p time)
 modelHeard m (reply p n) = replied (M.replyAnswer m p n)
 modelHeard m (cancel l n) = cancelled (M.cancelAnswer m l n)
 modelHeard m (gone peer out) = dropped (M.goneAnswer m peer out) (M.goneSlice m peer out)
+modelHeard m (runOut time out) = dropped (M.runOutAnswer m time out) (M.runOutSlice m time out)
 
 abbrev pub modelAfter : Model → Call → Model
-modelAfter m (ask l n p) = M.ask m l n p
+modelAfter m (ask l n p time timeout) = M.ask m l n p time timeout
 modelAfter m (reply p n) = M.reply m p n
 modelAfter m (cancel l n) = M.cancel m l n
 modelAfter m (gone peer out) = M.gone m peer out
+modelAfter m (runOut time out) = M.runOut m time out
 
 unfoldable pub modelRun : Model → List Call → List Heard
 modelRun m [] = []

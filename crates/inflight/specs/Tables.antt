@@ -2,8 +2,8 @@
 -- A request stays in its slot until it is freed; masks say which slots are used, and an order which of them is older.
 -- Assumes nothing.
 use mathlib.Core.Path.{_≡_}
-use Prim.Native.Nat.{ℕ, zero, suc, _+_, _*_, _^_, _%_, max}
-use mathlib.Core.Bool.{Bool, not, _&&_}
+use Prim.Native.Nat.{ℕ, zero, suc, _+_, _*_, _^_, _%_, min, max}
+use mathlib.Core.Bool.{Bool, true, false, not, _&&_}
 use mathlib.Core.List.{List, [], _∷_, _++_, map}
 use lib.Dec.{eqb, leb, ltb}
 use lib.Bits.{bitOr}
@@ -14,7 +14,8 @@ use lib.ListN.{length, take, getD, set, replicate}
 use Rattle.wire.specs.Choice.{pick, first}
 use Rattle.inflight.specs.Numbers.{same, after}
 use Rattle.inflight.specs.Matching.{sumBelow, overFront}
-use Rattle.inflight.specs.Model.{noLink, noPublisher, noPeer}
+use Rattle.inflight.specs.Model.{noLink, noPublisher, noPeer, noTime, deadlineAt}
+use Rattle.inflight.specs.Requests.{due}
 use Rattle.inflight.specs.Masks.{slots, seek, gather, lowestFree, cut, within, outside}
 use Rattle.inflight.specs.Masks.{laidOut, closedUp, placedAnew}
 use Rattle.inflight.specs.declared.FrontNumber.{FrontNumber}
@@ -35,16 +36,18 @@ use Rattle.inflight.specs.declared.DropAnswer.the-variants as D
 -- masks: 0 the used slots, 1 + p those of publisher p.
 -- numbers: i the front number of slot i, 64 + i its publisher number, 128 + p the number after publisher p's last one.
 -- places: i the link of slot i, 64 + i its publisher.
--- order: i the place of slot i in the order of acceptance, 0 for the oldest
+-- order: i the place of slot i in the order of acceptance, 0 for the oldest.
+-- times: i the deadline of slot i, 0 for none; 64 the latest time seen
 pub record Table : Type 0 where
   pub masks : List ℕ
   pub numbers : List ℤ
   pub places : List ℕ
   pub order : List ℕ
+  pub times : List ℕ
 
 -- a table by its arrays
-abbrev pub tableOf : List ℕ → List ℤ → List ℕ → List ℕ → Table
-tableOf ms ns ps os = record { masks = ms; numbers = ns; places = ps; order = os }
+abbrev pub tableOf : List ℕ → List ℤ → List ℕ → List ℕ → List ℕ → Table
+tableOf ms ns ps os ts = record { masks = ms; numbers = ns; places = ps; order = os; times = ts }
 
 -- what the arrays' types say
 pub record Sized (t : Table) : Type 0 where
@@ -52,6 +55,7 @@ pub record Sized (t : Table) : Type 0 where
   pub numbers : length (t .numbers) ≡ 136
   pub places : length (t .places) ≡ 128
   pub order : length (t .order) ≡ 64
+  pub times : length (t .times) ≡ 65
 
 -- the used slots
 abbrev pub used : Table → ℕ
@@ -86,6 +90,10 @@ freshMasks n ms = pick (noFirst n) ms (replicate 9 0)
 unfoldable pub freshNumbers : PublisherNumber → List ℤ → List ℤ
 freshNumbers n ns = pick (noFirst n) ns (take 128 ns ++ replicate 8 (n .0))
 
+-- "a fresh table has seen time 0"
+unfoldable pub freshTimes : PublisherNumber → List ℕ → List ℕ
+freshTimes n ts = pick (noFirst n) ts (set ts 64 0)
+
 -- fresh: the table and the answer
 unfoldable pub freshOf : Table → PublisherNumber → Started
 freshOf t n =
@@ -95,6 +103,7 @@ freshOf t n =
         numbers = freshNumbers n (t .numbers);
         places = t .places;
         order = t .order;
+        times = freshTimes n (t .times);
       };
       answer = freshAnswer n;
     }
@@ -128,11 +137,12 @@ unfoldable pub loadRefusal : List ℕ → ℕ → ℕ
 loadRefusal ms p = first ((leb 16 (loadOf ms p), 32) ∷ (leb 4 (loadOf ms p) && eqb (takenOf ms) 64, 33) ∷ []) 0
 
 -- 30, 12, 31, 32, 33, and 0 where none applies
-unfoldable pub askRefusalOf : List ℕ → List ℤ → List ℕ → ℕ → FrontNumber → ℕ → ℕ
-askRefusalOf ms ns ps l n p =
+unfoldable pub askRefusalOf : List ℕ → List ℤ → List ℕ → ℕ → FrontNumber → ℕ → ℕ → ℕ
+askRefusalOf ms ns ps l n p time =
     first
     ((noLink l, 30)
     ∷ (noPublisher p, 30)
+    ∷ (noTime time, 30)
     ∷ (same (n .0) (pos 0), 12)
     ∷ (not (eqb (seek (isFront ns ps l n) (slots (getD ms 0 0))) 64), 31)
     ∷ [])
@@ -142,14 +152,24 @@ askRefusalOf ms ns ps l n p =
 abbrev pub givenOf : Table → ℕ → PublisherNumber
 givenOf t p = freeOf (ones (used t)) (mine t p) (t .numbers) (record { 0 = getD (t .numbers) (128 + p) (pos 0) })
 
+-- the latest time seen, a call's own among them; of contents in which it is past the range, which no fresh table leads
+-- to, the largest time stands for it
+abbrev pub latestOf : List ℕ → ℕ → ℕ
+latestOf ts time = min 4611686018427387903 (max (getD ts 64 0) time)
+
+-- the times after a request with a timeout was put into slot s
+unfoldable pub timedOf : List ℕ → ℕ → ℕ → ℕ → List ℕ
+timedOf ts s time timeout = set (set ts s (deadlineAt (latestOf ts time) timeout)) 64 (latestOf ts time)
+
 -- a table with one request more, in slot s, behind all others in the order
-abbrev pub placed : Table → ℕ → FrontNumber → ℕ → ℕ → PublisherNumber → Table
-placed t l n p s g =
+abbrev pub placed : Table → ℕ → FrontNumber → ℕ → ℕ → PublisherNumber → ℕ → ℕ → Table
+placed t l n p s g time timeout =
     record {
       masks = set (set (t .masks) 0 (bitOr (used t) (2 ^ s))) (1 + p) (bitOr (mine t p) (2 ^ s));
       numbers = set (set (set (t .numbers) s (n .0)) (64 + s) (g .0)) (128 + p) (after g .0);
       places = set (set (t .places) s l) (64 + s) p;
       order = set (t .order) s (ones (used t));
+      times = timedOf (t .times) s time timeout;
     }
 
 pub record Asked : Type 0 where
@@ -158,13 +178,16 @@ pub record Asked : Type 0 where
 
 -- "a new ticket takes the lowest free slot"; where all 64 are used, which no fresh table leads to, the ask is refused
 -- with 33
-unfoldable pub askOf : Table → ℕ → FrontNumber → ℕ → Asked
-askOf t l n p =
-    pick (eqb (askRefusalOf (t .masks) (t .numbers) (t .places) l n p) 0)
+unfoldable pub askOf : Table → ℕ → FrontNumber → ℕ → ℕ → ℕ → Asked
+askOf t l n p time timeout =
+    pick (eqb (askRefusalOf (t .masks) (t .numbers) (t .places) l n p time) 0)
     (pick (leb 64 (lowestFree (used t)))
     (record { table = t; answer = A.Refused 33 })
-    (record { table = placed t l n p (lowestFree (used t)) (givenOf t p); answer = A.Accepted (givenOf t p) }))
-    (record { table = t; answer = A.Refused (askRefusalOf (t .masks) (t .numbers) (t .places) l n p) })
+    (record {
+      table = placed t l n p (lowestFree (used t)) (givenOf t p) time timeout;
+      answer = A.Accepted (givenOf t p);
+    }))
+    (record { table = t; answer = A.Refused (askRefusalOf (t .masks) (t .numbers) (t .places) l n p time) })
 
 -- ---- reply and cancel
 
@@ -180,6 +203,7 @@ freed t s =
       numbers = t .numbers;
       places = t .places;
       order = map (closedUp (getD (t .order) s 0)) (t .order);
+      times = t .times;
     }
 
 pub record Replied : Type 0 where
@@ -234,10 +258,14 @@ slotsOf ms ps (P.Publisher p) = getD ms (1 + p) 0
 abbrev pub leaving : Table → ℕ → List ℕ
 leaving t mask = within mask (line t)
 
--- where the other ends of a peer's requests stand: publishers and publisher numbers at 64, links and front numbers at 0
+-- where ends of requests stand: publishers and publisher numbers at 64, links and front numbers at 0
+abbrev pub endsAt : Bool → ℕ
+endsAt publishers = pick publishers 64 0
+
+-- where the other ends of a peer's requests stand
 abbrev pub otherAt : Peer → ℕ
-otherAt (P.Front l) = 64
-otherAt (P.Publisher p) = 0
+otherAt (P.Front l) = endsAt true
+otherAt (P.Publisher p) = endsAt false
 
 -- the other ends of some slots: place and number of each, at an offset
 unfoldable pub endsOf : List ℤ → List ℕ → ℕ → List ℕ → List ℤ
@@ -252,6 +280,7 @@ struck t mask =
       numbers = t .numbers;
       places = t .places;
       order = placedAnew (outside mask (line t)) 0 (t .order);
+      times = t .times;
     }
 
 pub record Dropped : Type 0 where
@@ -276,3 +305,36 @@ goneOf t peer out =
     pick (noPeer peer)
     (record { table = t; answer = D.Refused 30; slice = out })
     (dropOf t (slotsOf (t .masks) (t .places) peer) (otherAt peer) out)
+
+-- ---- run out
+
+-- whether slot i has a deadline that has come at a time
+abbrev pub isDue : List ℕ → ℕ → ℕ → Bool
+isDue ts now i = due (getD ts i 0) now
+
+-- the used slots that have one
+abbrev pub dueOf : List ℕ → List ℕ → ℕ → ℕ
+dueOf ms ts now = gather (isDue ts now) (slots (getD ms 0 0)) 0
+
+-- the times after a run-out: the time is seen, unless the call was refused
+abbrev pub seenOf : List ℕ → ℕ → DropAnswer → List ℕ
+seenOf ts now (D.Count k) = set ts 64 now
+seenOf ts now (D.Refused k) = ts
+
+-- what a run-out leaves: what freeing the slots leaves, and its time
+abbrev pub droppedAt : List ℕ → ℕ → Dropped → Dropped
+droppedAt ts now r =
+    record {
+      table =
+          tableOf (r .table .masks) (r .table .numbers) (r .table .places) (r .table .order) (seenOf ts now (r .answer));
+      answer = r .answer;
+      slice = r .slice;
+    }
+
+-- 30; else the requests in the due slots, with links and front numbers as their other ends
+unfoldable pub runOutOf : Table → ℕ → List ℤ → Dropped
+runOutOf t time out =
+    pick (noTime time)
+    (record { table = t; answer = D.Refused 30; slice = out })
+    (droppedAt (t .times) (latestOf (t .times) time)
+    (dropOf t (dueOf (t .masks) (t .times) (latestOf (t .times) time)) (endsAt false) out))

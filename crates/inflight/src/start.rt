@@ -5,7 +5,7 @@ use refusal::OUT_OF_RANGE;
 ghost use mathlib.Core.Path.{_≡_};
 ghost use mathlib.Core.List.{_++_};
 ghost use lib.ListN.{length, take, replicate};
-ghost use Rattle.inflight.specs.Tables.{freshAnswer, freshMasks, freshNumbers};
+ghost use Rattle.inflight.specs.Tables.{freshAnswer, freshMasks, freshNumbers, freshTimes};
 
 // What the type says of a lent array's length, for the proofs: it compiles to nothing.
 fn nine(a: [u64; 9])
@@ -41,16 +41,23 @@ fn renumber(numbers: &mut [i64; 136], n: PublisherNumber)
     }
 }
 
-// A table starts at a first publisher number; one below 1 is refused, and the table stays. `places` and `order` stay
-// in any case.
-pub fn fresh(masks: &mut [u64; 9], numbers: &mut [i64; 136], first: PublisherNumber) -> FreshAnswer
+// A table starts at a first publisher number; one below 1 is refused, and the table stays. `places`, `order` and the
+// deadlines of slots stay in any case.
+pub fn fresh(
+    masks: &mut [u64; 9],
+    numbers: &mut [i64; 136],
+    times: &mut [u64; 65],
+    first: PublisherNumber,
+) -> FreshAnswer
     ensures { λ r. ⌜ (r ≡ freshAnswer first) × (now (masks .exit) ≡ freshMasks first (now (masks .entry)))
-        × (now (numbers .exit) ≡ freshNumbers first (now (numbers .entry))) ⌝ }
+        × (now (numbers .exit) ≡ freshNumbers first (now (numbers .entry)))
+        × (now (times .exit) ≡ freshTimes first (now (times .entry))) ⌝ }
 {
     if first.0 < 1 {
         return FreshAnswer::Refused(OUT_OF_RANGE);
     }
     clear(masks);
     renumber(numbers, first);
+    times[64] = 0;
     FreshAnswer::Ready
 }

@@ -8,29 +8,34 @@ use inflight_rules::step;
 use inflight_slots::bit;
 use inflight_slots::count;
 use inflight_slots::lowest_free;
+use inflight_times::set_deadline;
 use refusal::CAPACITY_GONE;
 ghost use mathlib.Core.Path.{_≡_};
 ghost use Rattle.inflight.specs.Tables.{tableOf, Asked, askOf};
 
-// Ask (link, number, publisher): accepted with a publisher number, or refused.
+// Ask (link, number, publisher), at a time in ms and with a timeout: accepted with a publisher number, or refused. The
+// timeout 0 is none; an ask with time 0 and timeout 0 is one without either.
 pub fn ask(
     masks: &mut [u64; 9],
     numbers: &mut [i64; 136],
     places: &mut [u8; 128],
     order: &mut [u8; 64],
+    times: &mut [u64; 65],
     link: u8,
     number: FrontNumber,
     publisher: u8,
+    time: u64,
+    timeout: u32,
 ) -> AskAnswer
     ensures { λ r. ⌜ _≡_ {A = Asked} (record {
       table = tableOf (now (masks .exit)) (now (numbers .exit))
-          (now (places .exit)) (now (order .exit));
+          (now (places .exit)) (now (order .exit)) (now (times .exit));
       answer = r;
     })
         (askOf (tableOf (now (masks .entry)) (now (numbers .entry)) (now (places .entry))
-        (now (order .entry))) link number publisher) ⌝ }
+        (now (order .entry)) (now (times .entry))) link number publisher time timeout) ⌝ }
 {
-    let no = ask_refusal(masks, numbers, places, link, number, publisher);
+    let no = ask_refusal(masks, numbers, places, link, number, publisher, time);
     if no != 0 {
         return AskAnswer::Refused(no);
     }
@@ -54,6 +59,7 @@ pub fn ask(
     places[s] = link;
     places[64 + s] = publisher;
     order[s] = n as u8;
+    set_deadline(times, s, time, timeout);
     let b = bit(s);
     masks[0] = used | b;
     masks[1 + p] = mine | b;

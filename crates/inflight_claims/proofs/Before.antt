@@ -13,9 +13,10 @@ use borrow.Author.Tests.{eqb-true, lt-leb}
 use Rattle.wire.specs.Choice.{pick}
 use Rattle.inflight.specs.Requests.{Request, Key, Reply, Cancel, Closed, Lost}
 use Rattle.inflight.specs.declared.Peer.the-variants as P
+use Rattle.inflight.specs.Matching.{without}
 use Rattle.inflight.specs.Model.{Model}
 use Rattle.inflight.specs.Model as M
-use Rattle.inflight.specs.Calls.{Call, Heard, ask, reply, cancel, gone, modelHeard, modelAfter, modelRun}
+use Rattle.inflight.specs.Calls.{Call, Heard, ask, reply, cancel, gone, runOut, modelHeard, modelAfter, modelRun}
 use Rattle.inflight.specs.declared.FrontNumber.{FrontNumber}
 use Rattle.inflight.specs.declared.PublisherNumber.{PublisherNumber}
 use Rattle.inflight.specs.declared.FreshAnswer.{FreshAnswer}
@@ -38,7 +39,7 @@ record AsModel (t : Table) (c : Call) : Type 0 where
 modelOf-store : (t : Table) (m : Model) → modelOf (store t m) ≡ m
 unfolding store inFlight
 modelOf-store t m =
-    ap (λ (es : List Request). record { requests = es; next = m .next })
+    ap (λ (es : List Request). record { requests = es; next = m .next; seen = m .seen })
     (take-append-seam (m .requests) (drop (length (m .requests)) (t .requests)))
 
 modelOf-pick : (b : Bool) (t : Table) (m : Model) → modelOf (pick b (store t m) t) ≡ pick b m (modelOf t)
@@ -49,32 +50,32 @@ modelOf-pick false t m = refl
 place : (a b : ℕ) → b < a → _≡_ {A = ℕ} (pick (leb a b) 33 0) 0
 place a b h = rw (lt-leb a b h)
 
-module _ (t : Table) (l : ℕ) (n : FrontNumber) (p : ℕ)
-    (room : M.askRefusal (modelOf t) l n p ≡ 0 → length (inFlight t) < 64) where
-  refusal-same : T.askRefusalOf t l n p ≡ M.askRefusal (modelOf t) l n p
+module _ (t : Table) (l : ℕ) (n : FrontNumber) (p time timeout : ℕ)
+    (room : M.askRefusal (modelOf t) l n p time ≡ 0 → length (inFlight t) < 64) where
+  refusal-same : T.askRefusalOf t l n p time ≡ M.askRefusal (modelOf t) l n p time
   unfolding T.askRefusalOf
-  refusal-same = go (eqb (M.askRefusal (modelOf t) l n p) 0) refl
+  refusal-same = go (eqb (M.askRefusal (modelOf t) l n p time) 0) refl
     where
-      go : (y : Bool) → eqb (M.askRefusal (modelOf t) l n p) 0 ≡ y
-          → T.askRefusalOf t l n p ≡ M.askRefusal (modelOf t) l n p
-      go true e = let z = eqb-true (M.askRefusal (modelOf t) l n p) 0 e in rw e (place _ _ (room z) ∙ sym z)
+      go : (y : Bool) → eqb (M.askRefusal (modelOf t) l n p time) 0 ≡ y
+          → T.askRefusalOf t l n p time ≡ M.askRefusal (modelOf t) l n p time
+      go true e = let z = eqb-true (M.askRefusal (modelOf t) l n p time) 0 e in rw e (place _ _ (room z) ∙ sym z)
       go false e = rw e
 
-  ask-same : AsModel t (ask l n p)
+  ask-same : AsModel t (ask l n p time timeout)
   unfolding T.askOf M.ask M.askAnswer
-  ask-same = go (eqb (M.askRefusal (modelOf t) l n p) 0) refl
+  ask-same = go (eqb (M.askRefusal (modelOf t) l n p time) 0) refl
     where
-      go : (y : Bool) → eqb (M.askRefusal (modelOf t) l n p) 0 ≡ y → AsModel t (ask l n p)
+      go : (y : Bool) → eqb (M.askRefusal (modelOf t) l n p time) 0 ≡ y → AsModel t (ask l n p time timeout)
       go true e =
-          let q : T.askOf t l n p .table ≡ store t (M.accept (modelOf t) l n p) = rw (refusal-same, e) in
-          let s : M.ask (modelOf t) l n p ≡ M.accept (modelOf t) l n p = rw e in
+          let q : T.askOf t l n p time timeout .table ≡ store t (M.accept (modelOf t) l n p time timeout) = rw (refusal-same, e) in
+          let s : M.ask (modelOf t) l n p time timeout ≡ M.accept (modelOf t) l n p time timeout = rw e in
           record {
             answer = rw (refusal-same, e);
-            table = ap modelOf q ∙ modelOf-store t (M.accept (modelOf t) l n p) ∙ sym s;
+            table = ap modelOf q ∙ modelOf-store t (M.accept (modelOf t) l n p time timeout) ∙ sym s;
           }
       go false e =
-          let q : T.askOf t l n p .table ≡ t = rw (refusal-same, e) in
-          let s : M.ask (modelOf t) l n p ≡ modelOf t = rw e in
+          let q : T.askOf t l n p time timeout .table ≡ t = rw (refusal-same, e) in
+          let s : M.ask (modelOf t) l n p time timeout ≡ modelOf t = rw e in
           record { answer = rw (refusal-same, e); table = ap modelOf q ∙ sym s }
 
 -- reply and cancel, closed and lost, over the key
@@ -88,15 +89,40 @@ dropped-same : (t : Table) (range : Bool) (k : Key) (out : List ℤ)
 unfolding T.dropOf M.dropped
 dropped-same t range k out = modelOf-pick (eqb (M.dropRefusal (modelOf t) range k out) 0) t (M.remove (modelOf t) k)
 
+-- run out, whose model after it is the old one where it is refused
+run-out-table : (t : Table) (time : ℕ) (out : List ℤ)
+    → modelOf (T.runOutOf t time out .table) ≡ M.runOut (modelOf t) time out
+unfolding T.runOutOf M.runOut
+run-out-table t time out =
+    modelOf-pick no t (M.runOut (modelOf t) time out) ∙ twice no
+  where
+    no : Bool
+    no = eqb (M.dropRefusal (modelOf t) (M.noTime time) (M.runOutKey (modelOf t) time) out) 0
+
+    after : Model
+    after =
+        record {
+          requests = without (M.runOutKey (modelOf t) time) (inFlight t);
+          next = t .next;
+          seen = M.latest (modelOf t) time;
+        }
+
+    twice : (b : Bool) → pick b (pick b after (modelOf t)) (modelOf t) ≡ pick b after (modelOf t)
+    twice true = refl
+    twice false = refl
+
 same-call : (t : Table) (c : Call) → Invariant (modelOf t) → AsModel t c
-unfolding T.replyOf T.cancelOf T.closedOf T.closedSliceOf T.lostOf T.lostSliceOf T.dropOf T.dropSliceOf
-same-call t (ask l n p) f =
-    ask-same t l n p (λ e. bounded-space (inFlight t) p (f .bounded) (accepts (modelOf t) l n p e))
+unfolding T.replyOf T.cancelOf T.closedOf T.closedSliceOf T.lostOf T.lostSliceOf T.dropOf T.dropSliceOf T.runOutOf
+    T.runOutSliceOf
+same-call t (ask l n p time timeout) f =
+    ask-same t l n p time timeout
+    (λ e. bounded-space (inFlight t) p (f .bounded) (accepts (modelOf t) l n p time e))
 same-call t (reply p n) f = record { answer = refl; table = taken-same t (M.noPublisher p) (n .0) (Reply p n) }
 same-call t (cancel l n) f = record { answer = refl; table = taken-same t (M.noLink l) (n .0) (Cancel l n) }
 same-call t (gone (P.Front l) out) f = record { answer = refl; table = dropped-same t (M.noLink l) (Closed l) out }
 same-call t (gone (P.Publisher p) out) f =
     record { answer = refl; table = dropped-same t (M.noPublisher p) (Lost p) out }
+same-call t (runOut time out) f = record { answer = refl; table = run-out-table t time out }
 
 inv-after : (t : Table) (c : Call) → Invariant (modelOf t) → Invariant (modelOf (tableAfter t c))
 inv-after t c f = subst Invariant (sym (same-call t c f .table)) (inv-call (modelOf t) c f)

@@ -3,7 +3,9 @@ pub mod ListClaim
 pub mod Rows
 pub mod Membership
 pub mod History
+pub mod Told
 pub mod Numbering
+pub mod OldAsks
 pub mod Delivery
 pub mod Before
 pub mod TwoCalls

@@ -29,44 +29,44 @@ use Rattle.inflight_model.proofs.Capacity.{accepts, bounded-size}
 use Rattle.inflight_model.proofs.Invariant.{Ranged, Invariant, inv-at, given-ranged, new-number}
 use Rattle.inflight_tied.proofs.Simulated.{run-same, fresh-ready, ready-not-below, fresh-good, fresh-model}
 
-module _ (m : Model) (l : ℕ) (n : FrontNumber) (p : ℕ) where
-  pub answer-yes : askRefusal m l n p ≡ 0 → askAnswer m l n p ≡ Accepted (given m p)
+module _ (m : Model) (l : ℕ) (n : FrontNumber) (p time : ℕ) where
+  pub answer-yes : askRefusal m l n p time ≡ 0 → askAnswer m l n p time ≡ Accepted (given m p)
   unfolding askAnswer
-  answer-yes e = rw (eq-eqb (askRefusal m l n p) 0 e)
+  answer-yes e = rw (eq-eqb (askRefusal m l n p time) 0 e)
 
-  pub answer-no : (k : ℕ) → askRefusal m l n p ≡ k → (k ≡ 0 → ⊥) → askAnswer m l n p ≡ Refused k
+  pub answer-no : (k : ℕ) → askRefusal m l n p time ≡ k → (k ≡ 0 → ⊥) → askAnswer m l n p time ≡ Refused k
   unfolding askAnswer
   answer-no k e h = rw (e, ne-eqb k 0 h)
 
   -- an accepted ask is not refused, and its answer is the number given
-  pub answer-accepted : (x : PublisherNumber) → askAnswer m l n p ≡ Accepted x → (askRefusal m l n p ≡ 0) × (given m p ≡ x)
+  pub answer-accepted : (x : PublisherNumber) → askAnswer m l n p time ≡ Accepted x → (askRefusal m l n p time ≡ 0) × (given m p ≡ x)
   unfolding askAnswer
-  answer-accepted x = go (eqb (askRefusal m l n p) 0) refl
+  answer-accepted x = go (eqb (askRefusal m l n p time) 0) refl
     where
-      go : (y : Bool) → eqb (askRefusal m l n p) 0 ≡ y → pick y (Accepted (given m p)) (Refused (askRefusal m l n p)) ≡ Accepted x
-          → (askRefusal m l n p ≡ 0) × (given m p ≡ x)
-      go true e h = (eqb-true (askRefusal m l n p) 0 e, cc)
+      go : (y : Bool) → eqb (askRefusal m l n p time) 0 ≡ y → pick y (Accepted (given m p)) (Refused (askRefusal m l n p time)) ≡ Accepted x
+          → (askRefusal m l n p time ≡ 0) × (given m p ≡ x)
+      go true e h = (eqb-true (askRefusal m l n p time) 0 e, cc)
       go false e h = let z : _≡_ {A = ℕ} 0 1 = cc in absurd (omega arith)
 
 -- the sentences on capacity
-pub capacity : (m : Model) (l : ℕ) (n : FrontNumber) (p : ℕ) → Valid m l n p → Capacity m l n p
-capacity m l n p v =
+pub capacity : (m : Model) (l : ℕ) (n : FrontNumber) (p time : ℕ) → Valid m l n p time → Capacity m l n p time
+capacity m l n p time v =
     record {
-      under = λ h. answer-yes m l n p (ask-under applies h);
-      taken = λ h k t. answer-no m l n p 33 (ask-gone applies h (omega arith) t) (λ q. omega arith);
+      under = λ h. answer-yes m l n p time (ask-under applies h);
+      taken = λ h k t. answer-no m l n p time 33 (ask-gone applies h (omega arith) t) (λ q. omega arith);
       only = λ h k a. only h k (eqb (capacityTaken (m .requests)) 64) refl a;
       left = left;
-      full = λ h. answer-no m l n p 32 (ask-full applies (omega arith)) (λ q. omega arith);
+      full = λ h. answer-no m l n p time 32 (ask-full applies (omega arith)) (λ q. omega arith);
     }
   where
-    applies : Applies m l n p
-    applies = record { link = v .link; publisher = v .publisher; number = ne-same (n .0) (pos 0) (v .number); own = v .own }
+    applies : Applies m l n p time
+    applies = record { link = v .link; publisher = v .publisher; clock = v .clock; number = ne-same (n .0) (pos 0) (v .number); own = v .own }
 
-    left : 4 ≤ load (m .requests) p → load (m .requests) p ≤ 15 → (capacityTaken (m .requests) ≡ 64 → ⊥) → askAnswer m l n p ≡ Accepted (given m p)
-    left h k t = answer-yes m l n p (ask-left applies h (omega arith) t)
+    left : 4 ≤ load (m .requests) p → load (m .requests) p ≤ 15 → (capacityTaken (m .requests) ≡ 64 → ⊥) → askAnswer m l n p time ≡ Accepted (given m p)
+    left h k t = answer-yes m l n p time (ask-left applies h (omega arith) t)
 
     only : 4 ≤ load (m .requests) p → load (m .requests) p ≤ 15 → (y : Bool) → eqb (capacityTaken (m .requests)) 64 ≡ y
-        → askAnswer m l n p ≡ Refused 33 → capacityTaken (m .requests) ≡ 64
+        → askAnswer m l n p time ≡ Refused 33 → capacityTaken (m .requests) ≡ 64
     only h k true e a = eqb-true (capacityTaken (m .requests)) 64 e
     only h k false e a =
         let b = left h k (eqb-false (capacityTaken (m .requests)) 64 e) in
@@ -76,18 +76,19 @@ capacity m l n p v =
 pub kept : (m : Model) → Invariant m → Kept m
 kept m f =
     record {
-      capacity = λ l n p v. capacity m l n p v;
+      capacity = λ l n p time v. capacity m l n p time v;
       size = bounded-size (m .requests) (f .bounded);
       most = f .bounded .most;
       within = f .bounded .within;
       once = f .once;
       frontOnce = f .frontOnce;
-      new = λ l n p x a.
-          let e = answer-accepted m l n p x a in
-          ap (λ (y : PublisherNumber). length (matching (Reply p y) (m .requests))) (sym (e .1)) ∙ new-number m l n p f (e .0);
-      fromOne = λ l n p x a.
-          let e = answer-accepted m l n p x a in
-          rw (← e .1) (from-one (given m p) (given-ranged m p f (accepts m l n p (e .0) .range)));
+      new = λ l n p time x a.
+          let e = answer-accepted m l n p time x a in
+          ap (λ (y : PublisherNumber). length (matching (Reply p y) (m .requests))) (sym (e .1)) ∙ new-number m l n p time f (e .0);
+      fromOne = λ l n p time x a.
+          let e = answer-accepted m l n p time x a in
+          rw (← e .1) (from-one (given m p) (given-ranged m p f (accepts m l n p time (e .0) .range)));
+      seen = f .seen;
     }
   where
     from-one : (x : PublisherNumber) → Ranged x → leZ (pos 1) (x .0) ≡ true

@@ -17,7 +17,7 @@ use Rattle.inflight.specs.Numbers.{after, same}
 use Rattle.inflight.specs.Matching.{matching, nextFree}
 use Rattle.inflight.specs.Model.{Model, askRefusal, takeRefusal, dropRefusal, given}
 use Rattle.inflight.specs.Model as M
-use Rattle.inflight.specs.Calls.{Call, ask, reply, cancel, gone, asked, replied, modelAfter, modelAt}
+use Rattle.inflight.specs.Calls.{Call, ask, reply, cancel, gone, runOut, asked, replied, modelAfter, modelAt}
 use Rattle.inflight.specs.declared.FrontNumber.{FrontNumber}
 use Rattle.inflight.specs.declared.PublisherNumber.{PublisherNumber}
 use Rattle.inflight.specs.Requests.{Request}
@@ -139,15 +139,15 @@ module _ (first : PublisherNumber) (ranged : Ranged first) (p : ℕ) (range : p 
   next m = getD (m .next) p (record { 0 = pos 0 })
 
   -- the number that an accepted ask is given
-  given-at : (b : List Call) (l : ℕ) (f : FrontNumber) (s : ℕ) → askRefusal (at b) l f p ≡ 0 → next (at b) ≡ steps s first
+  given-at : (b : List Call) (l : ℕ) (f : FrontNumber) (time s : ℕ) → askRefusal (at b) l f p time ≡ 0 → next (at b) ≡ steps s first
       → given (at b) p ≡ steps (passed (modelAnswers first) first p b s + s) first
-  given-at b l f s a e =
+  given-at b l f time s a e =
       let m = at b in
       let es = m .requests in
       let inv = inv-at first ranged b in
       let n : ℕ = length es in
-      let w = bounded-space es p (inv .bounded) (accepts m l f p a) in
-      let k : row 64 es p (next m) ≡ row n es p (next m) = row-enough n 64 es p (next m) (omega arith) (new-number m l f p inv a) in
+      let w = bounded-space es p (inv .bounded) (accepts m l f p time a) in
+      let k : row 64 es p (next m) ≡ row n es p (next m) = row-enough n 64 es p (next m) (omega arith) (new-number m l f p time inv a) in
       let r : passed (modelAnswers first) first p b s ≡ row n es p (next m) = ap (inRow (modelAnswers first) p b 64) (sym e) ∙ in-row first 64 b p (next m) range (inv .ranged p range) ∙ k in
       free-steps n es p (next m) ∙ ap (λ (i : ℕ). steps i (next m)) (sym r) ∙ ap (steps (passed (modelAnswers first) first p b s)) e ∙ steps-add (passed (modelAnswers first) first p b s) s first
 
@@ -155,31 +155,34 @@ module _ (first : PublisherNumber) (ranged : Ranged first) (p : ℕ) (range : p 
   keeps m true r h = ap (λ (x : List PublisherNumber). getD x p (record { 0 = pos 0 })) h
   keeps m false r h = refl
 
-  next-ask : (b : List Call) (s : ℕ) (l : ℕ) (f : FrontNumber) (q : ℕ) → next (at b) ≡ steps s first
-      → next (M.ask (at b) l f q) ≡ steps (moved (modelAnswers first) first p b s (ask l f q)) first
+  next-ask : (b : List Call) (s : ℕ) (l : ℕ) (f : FrontNumber) (q time timeout : ℕ) → next (at b) ≡ steps s first
+      → next (M.ask (at b) l f q time timeout)
+      ≡ steps (moved (modelAnswers first) first p b s (ask l f q time timeout)) first
   unfolding M.ask M.accept M.askAnswer moved steps
-  next-ask b s l f q e = go (eqb q p) refl (eqb (askRefusal (at b) l f q) 0) refl
+  next-ask b s l f q time timeout e = go (eqb q p) refl (eqb (askRefusal (at b) l f q time) 0) refl
     where
-      go : (x : Bool) → eqb q p ≡ x → (y : Bool) → eqb (askRefusal (at b) l f q) 0 ≡ y
-          → next (pick y (record { requests = M.accept (at b) l f q .requests; next = set (at b .next) q (after (given (at b) q)) }) (at b))
-          ≡ steps (pick (x && not (refused (asked (pick y (A.Accepted (given (at b) q)) (A.Refused (askRefusal (at b) l f q)))))) (suc (passed (modelAnswers first) first p b s + s)) s) first
+      go : (x : Bool) → eqb q p ≡ x → (y : Bool) → eqb (askRefusal (at b) l f q time) 0 ≡ y
+          → next (pick y (M.accept (at b) l f q time timeout) (at b))
+          ≡ steps (pick (x && not (refused (asked (pick y (A.Accepted (given (at b) q)) (A.Refused (askRefusal (at b) l f q time)))))) (suc (passed (modelAnswers first) first p b s + s)) s) first
       go true u true v =
           let w : q ≡ p = eqb-true q p u in
-          let a : askRefusal (at b) l f p ≡ 0 = ap (λ (j : ℕ). askRefusal (at b) l f j) (sym w) ∙ eqb-true (askRefusal (at b) l f q) 0 v in
+          let a : askRefusal (at b) l f p time ≡ 0 = ap (λ (j : ℕ). askRefusal (at b) l f j time) (sym w) ∙ eqb-true (askRefusal (at b) l f q time) 0 v in
           let o : p < length (at b .next) = omega (arith, inv-at first ranged b .eight) in
-          ap (λ (j : ℕ). getD (set (at b .next) j (after (given (at b) j))) p (record { 0 = pos 0 })) w ∙ getD-set-same (at b .next) p (after (given (at b) p)) (record { 0 = pos 0 }) o ∙ ap after (given-at b l f s a e)
+          ap (λ (j : ℕ). getD (set (at b .next) j (after (given (at b) j))) p (record { 0 = pos 0 })) w ∙ getD-set-same (at b .next) p (after (given (at b) p)) (record { 0 = pos 0 }) o ∙ ap after (given-at b l f time s a e)
       go true u false v = e
       go false u true v = getD-set-other (at b .next) q p (after (given (at b) q)) (record { 0 = pos 0 }) (λ i. eqb-false q p u (sym i)) ∙ e
       go false u false v = e
 
   next-step : (b : List Call) (s : ℕ) (c : Call) → next (at b) ≡ steps s first
       → next (modelAfter (at b) c) ≡ steps (moved (modelAnswers first) first p b s c) first
-  unfolding moved M.taken M.dropped
-  next-step b s (ask l f q) e = next-ask b s l f q e
+  unfolding moved M.taken M.dropped M.runOut
+  next-step b s (ask l f q time timeout) e = next-ask b s l f q time timeout e
   next-step b s (reply q x) e = keeps (at b) (eqb (takeRefusal (at b) (M.noPublisher q) (x .0) (Reply q x)) 0) (M.remove (at b) (Reply q x)) refl ∙ e
   next-step b s (cancel l f) e = keeps (at b) (eqb (takeRefusal (at b) (M.noLink l) (f .0) (Cancel l f)) 0) (M.remove (at b) (Cancel l f)) refl ∙ e
   next-step b s (gone peer out) e =
       keeps (at b) (eqb (dropRefusal (at b) (M.noPeer peer) (keyOf peer) out) 0) (M.remove (at b) (keyOf peer)) refl ∙ e
+  next-step b s (runOut time out) e =
+      keeps (at b) (eqb (dropRefusal (at b) (M.noTime time) (M.runOutKey (at b) time) out) 0) _ refl ∙ e
 
   next-from : (cs b : List Call) (s : ℕ) → next (at b) ≡ steps s first
       → next (at (b ++ cs)) ≡ steps (steppedFrom (modelAnswers first) first p b s cs) first
@@ -194,19 +197,20 @@ module _ (first : PublisherNumber) (ranged : Ranged first) (p : ℕ) (range : p 
   unfolding M.empty modelAt steps
   next-stepped cs = next-from cs [] 0 (getD-replicate 8 p first (record { 0 = pos 0 }) range)
 
-  pub numbered-at : (cs : List Call) (l : ℕ) (f : FrontNumber) (x : PublisherNumber) → modelAnswers first cs (ask l f p) ≡ asked (A.Accepted x)
+  pub numbered-at : (cs : List Call) (l : ℕ) (f : FrontNumber) (time timeout : ℕ) (x : PublisherNumber)
+      → modelAnswers first cs (ask l f p time timeout) ≡ asked (A.Accepted x)
       → x ≡ steps (passed (modelAnswers first) first p cs (stepped (modelAnswers first) first p cs) + stepped (modelAnswers first) first p cs) first
-  numbered-at cs l f x h =
-      let a : M.askAnswer (at cs) l f p ≡ A.Accepted x = cc in
-      let k = answer-accepted (at cs) l f p x a in
-      sym (k .1) ∙ given-at cs l f (stepped (modelAnswers first) first p cs) (k .0) (next-stepped cs)
+  numbered-at cs l f time timeout x h =
+      let a : M.askAnswer (at cs) l f p time ≡ A.Accepted x = cc in
+      let k = answer-accepted (at cs) l f p time x a in
+      sym (k .1) ∙ given-at cs l f time (stepped (modelAnswers first) first p cs) (k .0) (next-stepped cs)
 
 -- ---- how far a numbering has gone, of any answers
 
 module _ (ans : Answers) (first : PublisherNumber) (p : ℕ) where
   moved-up : (b : List Call) (s : ℕ) (c : Call) → s ≤ moved ans first p b s c
   unfolding moved
-  moved-up b s (ask l f q) = go (eqb q p && not (refused (ans b (ask l f q))))
+  moved-up b s (ask l f q time timeout) = go (eqb q p && not (refused (ans b (ask l f q time timeout))))
     where
       go : (x : Bool) → s ≤ pick x (suc (passed ans first p b s + s)) s
       go true = omega arith
@@ -214,6 +218,7 @@ module _ (ans : Answers) (first : PublisherNumber) (p : ℕ) where
   moved-up b s (reply q x) = omega arith
   moved-up b s (cancel l f) = omega arith
   moved-up b s (gone peer out) = omega arith
+  moved-up b s (runOut time out) = omega arith
 
   stepped-up : (cs b : List Call) (s : ℕ) → s ≤ steppedFrom ans first p b s cs
   unfolding steppedFrom
@@ -230,7 +235,8 @@ module _ (ans : Answers) (first : PublisherNumber) (p : ℕ) where
   stepped-more x y = let e = stepped-append x y [] 0 in let i = stepped-up y x (stepped ans first p x) in omega arith
 
   -- an accepted ask goes one step, and one for each number passed over
-  pub stepped-ask : (cs : List Call) (l : ℕ) (f : FrontNumber) (x : PublisherNumber) → ans cs (ask l f p) ≡ asked (A.Accepted x)
-      → stepped ans first p (cs ++ ask l f p ∷ []) ≡ suc (passed ans first p cs (stepped ans first p cs) + stepped ans first p cs)
+  pub stepped-ask : (cs : List Call) (l : ℕ) (f : FrontNumber) (time timeout : ℕ) (x : PublisherNumber)
+      → ans cs (ask l f p time timeout) ≡ asked (A.Accepted x)
+      → stepped ans first p (cs ++ ask l f p time timeout ∷ []) ≡ suc (passed ans first p cs (stepped ans first p cs) + stepped ans first p cs)
   unfolding steppedFrom moved
-  stepped-ask cs l f x h = stepped-append cs (ask l f p ∷ []) [] 0 ∙ rw (eq-eqb p p refl, h)
+  stepped-ask cs l f time timeout x h = stepped-append cs (ask l f p time timeout ∷ []) [] 0 ∙ rw (eq-eqb p p refl, h)

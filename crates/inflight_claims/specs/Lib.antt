@@ -4,4 +4,5 @@ pub mod Rows
 pub mod Delivery
 pub mod Before
 pub mod TwoCalls
+pub mod OldAsks
 pub mod Slots

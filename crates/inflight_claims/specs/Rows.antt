@@ -1,4 +1,4 @@
--- The refusals of the four calls, each "exactly when its row applies and none earlier does": row by row, of every book.
+-- The refusals of the five calls, each "exactly when its row applies and none earlier does": row by row, of every book.
 -- By the list claim the table answers so at every point of every list.
 -- Assumes nothing.
 use mathlib.Core.Path.{_≡_}
@@ -8,7 +8,7 @@ use lib.IntN.{ℤ, pos}
 use lib.ListN.{length}
 use Rattle.inflight.specs.Requests.{Key, Reply, Cancel, keyOf}
 use Rattle.inflight.specs.Matching.{matching}
-use Rattle.inflight.specs.Model.{Model, matched, askAnswer, replyAnswer, cancelAnswer, goneAnswer}
+use Rattle.inflight.specs.Model.{Model, matched, askAnswer, replyAnswer, cancelAnswer, goneAnswer, runOutKey, runOutAnswer}
 use Rattle.inflight.specs.declared.FrontNumber.{FrontNumber}
 use Rattle.inflight.specs.declared.PublisherNumber.{PublisherNumber}
 use Rattle.inflight.specs.declared.Peer.{Peer}
@@ -25,12 +25,14 @@ None k m = length (matching k (m .requests)) ≡ 0
 
 -- ask: 30, 12, 31; where none of them applies the ask is valid, and is refused with 32 or 33, or accepted, as
 -- `Capacity` says
-pub record AskRows (m : Model) (l : ℕ) (n : FrontNumber) (p : ℕ) : Type 0 where
-  pub link : 32 ≤ l → askAnswer m l n p ≡ A.Refused 30
-  pub publisher : 8 ≤ p → askAnswer m l n p ≡ A.Refused 30
-  pub zero : l < 32 → p < 8 → n .0 ≡ pos 0 → askAnswer m l n p ≡ A.Refused 12
-  pub own : l < 32 → p < 8 → (n .0 ≡ pos 0 → ⊥) → (None (Cancel l n) m → ⊥) → askAnswer m l n p ≡ A.Refused 31
-  pub valid : Valid m l n p → Capacity m l n p
+pub record AskRows (m : Model) (l : ℕ) (n : FrontNumber) (p time : ℕ) : Type 0 where
+  pub link : 32 ≤ l → askAnswer m l n p time ≡ A.Refused 30
+  pub publisher : 8 ≤ p → askAnswer m l n p time ≡ A.Refused 30
+  pub clock : 4611686018427387904 ≤ time → askAnswer m l n p time ≡ A.Refused 30
+  pub zero : l < 32 → p < 8 → time < 4611686018427387904 → n .0 ≡ pos 0 → askAnswer m l n p time ≡ A.Refused 12
+  pub own : l < 32 → p < 8 → time < 4611686018427387904 → (n .0 ≡ pos 0 → ⊥) → (None (Cancel l n) m → ⊥)
+      → askAnswer m l n p time ≡ A.Refused 31
+  pub valid : Valid m l n p time → Capacity m l n p time
 
 -- reply: 30, 12, 34, and else the request's link and front number
 pub record ReplyRows (m : Model) (p : ℕ) (n : PublisherNumber) : Type 0 where
@@ -56,9 +58,18 @@ pub record GoneRows (m : Model) (peer : Peer) (limit x : ℕ) (out : List ℤ) :
   pub all : x < limit → 2 * length (matching (keyOf peer) (m .requests)) ≤ length out
       → goneAnswer m peer out ≡ D.Count (length (matching (keyOf peer) (m .requests)))
 
+-- run out: 30, 16, and else the count
+pub record RunOutRows (m : Model) (time : ℕ) (out : List ℤ) : Type 0 where
+  pub clock : 4611686018427387904 ≤ time → runOutAnswer m time out ≡ D.Refused 30
+  pub short : time < 4611686018427387904 → length out < 2 * length (matching (runOutKey m time) (m .requests))
+      → runOutAnswer m time out ≡ D.Refused 16
+  pub all : time < 4611686018427387904 → 2 * length (matching (runOutKey m time) (m .requests)) ≤ length out
+      → runOutAnswer m time out ≡ D.Count (length (matching (runOutKey m time) (m .requests)))
+
 pub record Rows (m : Model) : Type 0 where
-  pub ask : (l : ℕ) (n : FrontNumber) (p : ℕ) → AskRows m l n p
+  pub ask : (l : ℕ) (n : FrontNumber) (p time : ℕ) → AskRows m l n p time
   pub reply : (p : ℕ) (n : PublisherNumber) → ReplyRows m p n
   pub cancel : (l : ℕ) (n : FrontNumber) → CancelRows m l n
   pub front : (l : ℕ) (out : List ℤ) → GoneRows m (P.Front l) 32 l out
   pub publisher : (p : ℕ) (out : List ℤ) → GoneRows m (P.Publisher p) 8 p out
+  pub runOut : (time : ℕ) (out : List ℤ) → RunOutRows m time out

@@ -1,4 +1,4 @@
--- The result of a gone peer, part by part.
+-- What is left of the requests in the slots of a mask, part by part.
 -- Assumes nothing.
 use mathlib.Core.Path.{_≡_}
 use Prim.Native.Nat.{ℕ, _*_, _≤_, _<_}
@@ -34,6 +34,6 @@ module _ (t : Table) (mask base : ℕ) (out : List ℤ) where
   unfolding dropOf
   drop-yes h = rw (le-ltb (length out) (2 * length (leaving t mask)) h)
 
-pub drop-eq : {m m' : List ℕ} (ns : List ℤ) (ps : List ℕ) {o o' : List ℕ} {k k' : ℕ} {z z' : List ℤ} → m ≡ m' → o ≡ o' → k ≡ k' → z ≡ z'
-    → _≡_ {A = Dropped} (record { table = tableOf m ns ps o; answer = D.Count k; slice = z }) (record { table = tableOf m' ns ps o'; answer = D.Count k'; slice = z' })
-drop-eq ns ps p q r s = rw (p, q, r, s)
+pub drop-eq : {m m' : List ℕ} (ns : List ℤ) (ps ts : List ℕ) {o o' : List ℕ} {k k' : ℕ} {z z' : List ℤ} → m ≡ m' → o ≡ o' → k ≡ k' → z ≡ z'
+    → _≡_ {A = Dropped} (record { table = tableOf m ns ps o ts; answer = D.Count k; slice = z }) (record { table = tableOf m' ns ps o' ts; answer = D.Count k'; slice = z' })
+drop-eq ns ps ts p q r s = rw (p, q, r, s)

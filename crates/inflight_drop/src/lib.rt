@@ -1,8 +1,8 @@
-// The call that frees many requests: a peer is gone, a front link that closed or a publisher that was lost. The other
-// ends go into a lent slice, oldest first. It never opens a socket, reads a clock or allocates: the table is lent, as
-// the four arrays of crate `inflight`, and changes where it stands. It is total on any contents and every slice; the
-// types and the definitions are in crate `inflight`.
+// Many requests freed at once: those in the slots of a mask. Their other ends go into a lent slice, oldest first. It
+// never opens a socket, reads a clock or allocates: the table is lent, as arrays of crate `inflight`, and changes where
+// it stands. `drop_slots` is the one call, total on any mask, any contents and every slice; `gone` (crate
+// `inflight_gone`) and `run_out` (crate `inflight_run_out`) say which slots.
 mod dropping;
 mod ends;
 
-pub use dropping::gone;
+pub use dropping::drop_slots;

@@ -142,42 +142,47 @@ below-length (more {e} {es} h b) =
     let j = sum-more-at 8 (e .publisher) (load es) (load (e ∷ es)) h (λ q. load-grows e es q) (omega (arith, load-yes e es (e .publisher) refl)) in
     omega arith
 
--- ---- what an accepted ask says of link, publisher, number, loads and capacity
+-- ---- what an accepted ask says of link, publisher, time, number, loads and capacity
 
-rows : (a b c d e f : Bool) → _≡_ {A = ℕ} (pick a 30 (pick b 30 (pick c 12 (pick d 31 (pick e 32 (pick f 33 0)))))) 0
-    → (a ≡ false) × (b ≡ false) × (c ≡ false) × (d ≡ false) × (e ≡ false) × (f ≡ false)
-rows true b c d e f h = absurd (omega arith)
-rows false true c d e f h = absurd (omega arith)
-rows false false true d e f h = absurd (omega arith)
-rows false false false true e f h = absurd (omega arith)
-rows false false false false true f h = absurd (omega arith)
-rows false false false false false true h = absurd (omega arith)
-rows false false false false false false h = (refl, refl, refl, refl, refl, refl)
+rows : (a b t c d e f : Bool)
+    → _≡_ {A = ℕ} (pick a 30 (pick b 30 (pick t 30 (pick c 12 (pick d 31 (pick e 32 (pick f 33 0))))))) 0
+    → (a ≡ false) × (b ≡ false) × (t ≡ false) × (c ≡ false) × (d ≡ false) × (e ≡ false) × (f ≡ false)
+rows true b t c d e f h = absurd (omega arith)
+rows false true t c d e f h = absurd (omega arith)
+rows false false true c d e f h = absurd (omega arith)
+rows false false false true d e f h = absurd (omega arith)
+rows false false false false true e f h = absurd (omega arith)
+rows false false false false false true f h = absurd (omega arith)
+rows false false false false false false true h = absurd (omega arith)
+rows false false false false false false false h = (refl, refl, refl, refl, refl, refl, refl)
 
 either : (a b : Bool) → a && b ≡ false → (a ≡ false) ⊎ (b ≡ false)
 either true b h = inr h
 either false b h = inl refl
 
-pub record Accepts (es : List Request) (l : ℕ) (n : FrontNumber) (p : ℕ) : Type 0 where
+pub record Accepts (es : List Request) (l : ℕ) (n : FrontNumber) (p time : ℕ) : Type 0 where
   pub link : l < 32
   pub range : p < 8
+  pub clock : time < 4611686018427387904
   pub number : same (n .0) (pos 0) ≡ false
   pub own : length (matching (Cancel l n) es) ≡ 0
   pub under : load es p < 16
   pub reason : (load es p < 4) ⊎ (capacityTaken es ≡ 64 → ⊥)
 
-pub accepts : (m : Model) (l : ℕ) (n : FrontNumber) (p : ℕ) → askRefusal m l n p ≡ 0 → Accepts (m .requests) l n p
+pub accepts : (m : Model) (l : ℕ) (n : FrontNumber) (p time : ℕ) → askRefusal m l n p time ≡ 0
+    → Accepts (m .requests) l n p time
 unfolding askRefusal
-accepts m l n p e =
+accepts m l n p time e =
     let es = m .requests in
-    let r = rows (leb 32 l) (leb 8 p) (same (n .0) (pos 0)) (not (eqb (length (matching (Cancel l n) es)) 0)) (leb 16 (load es p)) (leb 4 (load es p) && eqb (capacityTaken es) 64) e in
+    let r = rows (leb 32 l) (leb 8 p) (leb 4611686018427387904 time) (same (n .0) (pos 0)) (not (eqb (length (matching (Cancel l n) es)) 0)) (leb 16 (load es p)) (leb 4 (load es p) && eqb (capacityTaken es) 64) e in
     record {
       link = leb-false 32 l (r .0);
       range = leb-false 8 p (r .1);
-      number = r .2;
-      own = eqb-true (length (matching (Cancel l n) es)) 0 (not-false (eqb (length (matching (Cancel l n) es)) 0) (r .3));
-      under = leb-false 16 (load es p) (r .4);
-      reason = ⊎-elim (λ b. inl (leb-false 4 (load es p) b)) (λ c. inr (eqb-false (capacityTaken es) 64 c)) (either (leb 4 (load es p)) (eqb (capacityTaken es) 64) (r .5));
+      clock = leb-false 4611686018427387904 time (r .2);
+      number = r .3;
+      own = eqb-true (length (matching (Cancel l n) es)) 0 (not-false (eqb (length (matching (Cancel l n) es)) 0) (r .4));
+      under = leb-false 16 (load es p) (r .5);
+      reason = ⊎-elim (λ b. inl (leb-false 4 (load es p) b)) (λ c. inr (eqb-false (capacityTaken es) 64 c)) (either (leb 4 (load es p)) (eqb (capacityTaken es) 64) (r .6));
     }
 
 -- ---- what holds of the requests at every point
@@ -207,7 +212,7 @@ bounded-size es s =
     omega (arith, s .within, below-length (s .below))
 
 -- where an ask is accepted, fewer than 64 requests are in flight
-pub bounded-space : (es : List Request) {l : ℕ} {n : FrontNumber} (p : ℕ) → Bounded es → Accepts es l n p → length es < 64
+pub bounded-space : (es : List Request) {l : ℕ} {n : FrontNumber} (p : ℕ) {time : ℕ} → Bounded es → Accepts es l n p time → length es < 64
 bounded-space es p s r = ⊎-elim few spare (r .reason)
   where
     l : length es ≤ sumBelow 8 (load es)
@@ -223,7 +228,8 @@ bounded-space es p s r = ⊎-elim few spare (r .reason)
         let m = sum-le 8 (load es) (λ q. max 4 (load es q)) (λ q g. omega arith) in
         omega (arith, s .within, h, l)
 
-pub bounded-snoc : (es : List Request) (e : Request) {l : ℕ} {n : FrontNumber} → Bounded es → Accepts es l n (e .publisher) → Bounded (es ++ e ∷ [])
+pub bounded-snoc : (es : List Request) (e : Request) {l : ℕ} {n : FrontNumber} {time : ℕ} → Bounded es → Accepts es l n (e .publisher) time
+    → Bounded (es ++ e ∷ [])
 bounded-snoc es e s r =
     record {
       below = below-snoc e (s .below) (r .range);

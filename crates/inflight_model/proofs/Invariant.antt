@@ -2,23 +2,23 @@
 -- accepted ask is given is not in flight with its publisher.
 -- Assumes nothing.
 use mathlib.Core.Path.{_≡_, refl, sym, ap, _∙_}
-use Prim.Native.Nat.{ℕ, zero, suc, _+_, _-_, _≤_, _<_}
+use Prim.Native.Nat.{ℕ, zero, suc, _+_, _-_, _*_, _≤_, _<_, max}
 use native.Mathlib.Omega.{arith}
 use mathlib.Core.Bool.{Bool, true, false, _&&_, false≢true}
 use mathlib.Core.List.{List, [], _∷_, _++_}
-use lib.Dec.{eqb}
+use lib.Dec.{eqb, ltb}
 use lib.IntN.{ℤ, pos}
 use lib.Signed.{mag}
 use lib.ListN.{length, getD, set, length-append, getD-replicate, length-set, length-replicate}
 use lib.Seq.{getD-set-same, getD-set-other}
-use borrow.Author.Tests.{eqb-true, eqb-false}
+use borrow.Author.Tests.{eqb-true, eqb-false, leb-false}
 use Rattle.wire.specs.Choice.{pick}
 use Rattle.inflight.specs.Numbers.{same, after}
 use Rattle.inflight.proofs.NumberLaws.{same-true, eq-same, ne-same}
 use Rattle.inflight.specs.Matching.{matches, matching, without, nextFree}
 use Rattle.inflight.specs.Model.{Model, askRefusal, takeRefusal, dropRefusal, given, entry}
 use Rattle.inflight.specs.Model as M
-use Rattle.inflight.specs.Calls.{Call, ask, reply, cancel, gone, modelAfter, modelAt}
+use Rattle.inflight.specs.Calls.{Call, ask, reply, cancel, gone, runOut, modelAfter, modelAt}
 use Rattle.inflight.specs.declared.FrontNumber.{FrontNumber}
 use Rattle.inflight.specs.declared.PublisherNumber.{PublisherNumber}
 use Rattle.inflight.specs.Requests.{Request}
@@ -90,6 +90,7 @@ pub record Invariant (b : Model) : Type 0 where
   pub ranged : (p : ℕ) → p < 8 → Ranged (getD (b .next) p (record { 0 = pos 0 }))
   pub once : (p : ℕ) (n : PublisherNumber) → length (matching (Reply p n) (b .requests)) ≤ 1
   pub frontOnce : (l : ℕ) (n : FrontNumber) → length (matching (Cancel l n) (b .requests)) ≤ 1
+  pub seen : b .seen < 4611686018427387904
 
 pub inv-empty : (first : PublisherNumber) → Ranged first → Invariant (M.empty first)
 unfolding M.empty matching
@@ -100,16 +101,20 @@ inv-empty first r =
       ranged = λ p h. rw (getD-replicate 8 p first (record { 0 = pos 0 }) h) r;
       once = λ p n. omega arith;
       frontOnce = λ l n. omega arith;
+      seen = omega arith;
     }
 
-inv-remove : (b : Model) (k : Key) → Invariant b → Bounded (without k (b .requests)) → Invariant (M.remove b k)
-inv-remove b k f s =
+-- fewer requests, and a time seen
+inv-remove : (b : Model) (k : Key) (now : ℕ) → Invariant b → now < 4611686018427387904
+    → Invariant (record { requests = without k (b .requests); next = b .next; seen = now })
+inv-remove b k now f h =
     record {
-      bounded = s;
+      bounded = bounded-without k (f .bounded);
       eight = f .eight;
       ranged = f .ranged;
       once = λ p n. omega (arith, matching-without (Reply p n) k (b .requests), f .once p n);
       frontOnce = λ l n. omega (arith, matching-without (Cancel l n) k (b .requests), f .frontOnce l n);
+      seen = h;
     }
 
 -- the number that an ask accepted by the model is given is not in flight with its publisher
@@ -162,17 +167,17 @@ next-ranged b p q f g h = go (eqb q p) refl
         (after-ranged (given b p) (given-ranged b p f g))
     go false i = rw (getD-set-other (b .next) p q (after (given b p)) (record { 0 = pos 0 }) (eqb-false q p i)) (f .ranged q h)
 
-inv-ask : (b : Model) (l : ℕ) (n : FrontNumber) (p : ℕ) → Invariant b → Invariant (M.ask b l n p)
+inv-ask : (b : Model) (l : ℕ) (n : FrontNumber) (p time timeout : ℕ) → Invariant b
+    → Invariant (M.ask b l n p time timeout)
 unfolding M.ask M.accept
-inv-ask b l n p f = go (eqb (askRefusal b l n p) 0) refl
+inv-ask b l n p time timeout f = go (eqb (askRefusal b l n p time) 0) refl
   where
-    go : (x : Bool) → eqb (askRefusal b l n p) 0 ≡ x
-        → Invariant (pick x (record { requests = b .requests ++ entry b l n p ∷ []; next = set (b .next) p (after (given b p)) }) b)
+    go : (x : Bool) → eqb (askRefusal b l n p time) 0 ≡ x → Invariant (pick x (M.accept b l n p time timeout) b)
     go false e = f
     go true e =
         let es = b .requests in
-        let E = entry b l n p in
-        let r = accepts b l n p (eqb-true (askRefusal b l n p) 0 e) in
+        let E = entry b l n p time timeout in
+        let r = accepts b l n p time (eqb-true (askRefusal b l n p time) 0 e) in
         let w = bounded-space es p (f .bounded) r in
         let new = not-in-flight b p f (r .range) (omega arith) in
         record {
@@ -181,6 +186,7 @@ inv-ask b l n p f = go (eqb (askRefusal b l n p) 0) refl
           ranged = λ q h. next-ranged b p q f (r .range) h;
           once = λ q y. one-more (Reply q y) es E (f .once q y) (λ h. ap (λ (j : Key). length (matching j es)) (sym (reply-same p q (given b p) y E refl refl h)) ∙ new);
           frontOnce = λ k y. one-more (Cancel k y) es E (f .frontOnce k y) (λ h. ap (λ (j : Key). length (matching j es)) (sym (cancel-same l k n y E refl refl h)) ∙ r .own);
+          seen = omega (arith, f .seen, r .clock);
         }
 
 inv-pick : (x : Bool) (a b : Model) → Invariant a → Invariant b → Invariant (pick x a b)
@@ -188,15 +194,34 @@ inv-pick true a b f g = f
 inv-pick false a b f g = g
 
 inv-removed : (b : Model) (k : Key) → Invariant b → Invariant (M.remove b k)
-inv-removed b k f = inv-remove b k f (bounded-without k (f .bounded))
+inv-removed b k f = inv-remove b k (b .seen) f (f .seen)
+
+-- a run-out that is not refused has a time in range
+in-range : (a b : Bool) → _≡_ {A = ℕ} (pick a 30 (pick b 16 0)) 0 → a ≡ false
+in-range true b e = absurd (omega arith)
+in-range false b e = refl
+
+inv-run-out : (b : Model) (time : ℕ) (out : List ℤ) → Invariant b → Invariant (M.runOut b time out)
+unfolding M.runOut dropRefusal
+inv-run-out b time out f = go (eqb (dropRefusal b (M.noTime time) (M.runOutKey b time) out) 0) refl
+  where
+    go : (x : Bool) → eqb (dropRefusal b (M.noTime time) (M.runOutKey b time) out) 0 ≡ x
+        → Invariant (pick x (record { requests = without (M.runOutKey b time) (b .requests); next = b .next; seen = max (b .seen) time }) b)
+    go false e = f
+    go true e =
+        let short : Bool = ltb (length out) (2 * length (matching (M.runOutKey b time) (b .requests))) in
+        let no : ℕ = dropRefusal b (M.noTime time) (M.runOutKey b time) out in
+        let r = leb-false 4611686018427387904 time (in-range (M.noTime time) short (eqb-true no 0 e)) in
+        inv-remove b (M.runOutKey b time) (max (b .seen) time) f (omega (arith, f .seen, r))
 
 pub inv-call : (b : Model) (c : Call) → Invariant b → Invariant (modelAfter b c)
 unfolding M.taken M.dropped
-inv-call b (ask l n p) f = inv-ask b l n p f
+inv-call b (ask l n p time timeout) f = inv-ask b l n p time timeout f
 inv-call b (reply p n) f = inv-pick (eqb (takeRefusal b (M.noPublisher p) (n .0) (Reply p n)) 0) _ b (inv-removed b (Reply p n) f) f
 inv-call b (cancel l n) f = inv-pick (eqb (takeRefusal b (M.noLink l) (n .0) (Cancel l n)) 0) _ b (inv-removed b (Cancel l n) f) f
 inv-call b (gone peer out) f =
     inv-pick (eqb (dropRefusal b (M.noPeer peer) (keyOf peer) out) 0) _ b (inv-removed b (keyOf peer) f) f
+inv-call b (runOut time out) f = inv-run-out b time out f
 
 inv-from : (cs : List Call) (b : Model) → Invariant b → Invariant (modelAt b cs)
 unfolding modelAt
@@ -208,8 +233,8 @@ pub inv-at : (first : PublisherNumber) → Ranged first → (cs : List Call) →
 inv-at first r cs = inv-from cs (M.empty first) (inv-empty first r)
 
 -- and the number that an accepted ask is given is not in flight with its publisher
-pub new-number : (b : Model) (l : ℕ) (n : FrontNumber) (p : ℕ) → Invariant b → askRefusal b l n p ≡ 0
+pub new-number : (b : Model) (l : ℕ) (n : FrontNumber) (p time : ℕ) → Invariant b → askRefusal b l n p time ≡ 0
     → length (matching (Reply p (given b p)) (b .requests)) ≡ 0
-new-number b l n p f e =
-    let r = accepts b l n p e in
+new-number b l n p time f e =
+    let r = accepts b l n p time e in
     not-in-flight b p f (r .range) (let w = bounded-space (b .requests) p (f .bounded) r in omega arith)

@@ -4,6 +4,7 @@ use inflight::FrontNumber;
 use inflight::same_front;
 use inflight_fronts::find_front;
 use inflight_slots::count;
+use inflight_times::no_time;
 use refusal::CAPACITY_GONE;
 use refusal::IN_FLIGHT_ALREADY;
 use refusal::LOAD_AT_LIMIT;
@@ -40,14 +41,18 @@ pub fn ask_refusal(
     link: u8,
     number: FrontNumber,
     publisher: u8,
+    time: u64,
 ) -> u8
     ensures { λ r. ⌜ r ≡ askRefusalOf (now (masks .entry)) (now (numbers .entry))
-        (now (places .entry)) link number publisher ⌝ }
+        (now (places .entry)) link number publisher time ⌝ }
 {
     if 32 <= link {
         return OUT_OF_RANGE;
     }
     if 8 <= publisher {
+        return OUT_OF_RANGE;
+    }
+    if no_time(time) {
         return OUT_OF_RANGE;
     }
     if same_front(number, FrontNumber(0)) {

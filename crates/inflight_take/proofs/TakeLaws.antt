@@ -8,8 +8,8 @@ use Rattle.inflight.specs.declared.ReplyAnswer.the-variants as R
 use Rattle.inflight.specs.declared.CancelAnswer.the-variants as C
 use Rattle.inflight.specs.Tables.{Replied, Cancelled}
 
-pub reply-eq : {m m' : List ℕ} (ns : List ℤ) (ps : List ℕ) {o o' : List ℕ} (l : ℕ) {z z' : ℤ} → m ≡ m' → o ≡ o' → z ≡ z' → _≡_ {A = Replied} (record { table = record { masks = m; numbers = ns; places = ps; order = o }; answer = R.Front l (record { 0 = z }) }) (record { table = record { masks = m'; numbers = ns; places = ps; order = o' }; answer = R.Front l (record { 0 = z' }) })
-reply-eq ns ps l p q r = rw (p, q, r)
+pub reply-eq : {m m' : List ℕ} (ns : List ℤ) (ps ts : List ℕ) {o o' : List ℕ} (l : ℕ) {z z' : ℤ} → m ≡ m' → o ≡ o' → z ≡ z' → _≡_ {A = Replied} (record { table = record { masks = m; numbers = ns; places = ps; order = o; times = ts }; answer = R.Front l (record { 0 = z }) }) (record { table = record { masks = m'; numbers = ns; places = ps; order = o'; times = ts }; answer = R.Front l (record { 0 = z' }) })
+reply-eq ns ps ts l p q r = rw (p, q, r)
 
-pub cancel-eq : {m m' : List ℕ} (ns : List ℤ) (ps : List ℕ) {o o' : List ℕ} (l : ℕ) {z z' : ℤ} → m ≡ m' → o ≡ o' → z ≡ z' → _≡_ {A = Cancelled} (record { table = record { masks = m; numbers = ns; places = ps; order = o }; answer = C.Publisher l (record { 0 = z }) }) (record { table = record { masks = m'; numbers = ns; places = ps; order = o' }; answer = C.Publisher l (record { 0 = z' }) })
-cancel-eq ns ps l p q r = rw (p, q, r)
+pub cancel-eq : {m m' : List ℕ} (ns : List ℤ) (ps ts : List ℕ) {o o' : List ℕ} (l : ℕ) {z z' : ℤ} → m ≡ m' → o ≡ o' → z ≡ z' → _≡_ {A = Cancelled} (record { table = record { masks = m; numbers = ns; places = ps; order = o; times = ts }; answer = C.Publisher l (record { 0 = z }) }) (record { table = record { masks = m'; numbers = ns; places = ps; order = o'; times = ts }; answer = C.Publisher l (record { 0 = z' }) })
+cancel-eq ns ps ts l p q r = rw (p, q, r)

@@ -12,9 +12,12 @@ use refusal::NO_SUCH_REQUEST;
 use refusal::NUMBER_ZERO;
 use refusal::OUT_OF_RANGE;
 ghost use mathlib.Core.Path.{_≡_};
+ghost use mathlib.Core.List.{List};
+ghost use Prim.Native.Nat.{ℕ};
 ghost use Rattle.inflight.specs.Tables.{tableOf, Replied, replyOf, Cancelled, cancelOf};
 
-// Reply (publisher, number): hands back link and front number, and frees the request.
+// Reply (publisher, number): hands back link and front number, and frees the request. Whatever the times ts are, it
+// neither reads nor changes them.
 pub fn reply(
     masks: &mut [u64; 9],
     numbers: &[i64; 136],
@@ -23,13 +26,13 @@ pub fn reply(
     publisher: u8,
     number: PublisherNumber,
 ) -> ReplyAnswer
-    ensures { λ r. ⌜ _≡_ {A = Replied} (record {
+    ensures { λ r. ⌜ ((ts : List ℕ) → _≡_ {A = Replied} (record {
       table = tableOf (now (masks .exit)) (now (numbers .entry))
-          (now (places .entry)) (now (order .exit));
+          (now (places .entry)) (now (order .exit)) ts;
       answer = r;
     })
         (replyOf (tableOf (now (masks .entry)) (now (numbers .entry)) (now (places .entry))
-        (now (order .entry))) publisher number) ⌝ }
+        (now (order .entry)) ts) publisher number)) ⌝ }
 {
     if 8 <= publisher {
         return ReplyAnswer::Refused(OUT_OF_RANGE);
@@ -48,7 +51,7 @@ pub fn reply(
     ReplyAnswer::Front(link, FrontNumber(front))
 }
 
-// Cancel (link, number): hands back publisher and publisher number, and frees the request.
+// Cancel (link, number): hands back publisher and publisher number, and frees the request, whatever the times ts are.
 pub fn cancel(
     masks: &mut [u64; 9],
     numbers: &[i64; 136],
@@ -57,13 +60,13 @@ pub fn cancel(
     link: u8,
     number: FrontNumber,
 ) -> CancelAnswer
-    ensures { λ r. ⌜ _≡_ {A = Cancelled}
+    ensures { λ r. ⌜ ((ts : List ℕ) → _≡_ {A = Cancelled}
         (record {
-          table = tableOf (now (masks .exit)) (now (numbers .entry)) (now (places .entry)) (now (order .exit));
+          table = tableOf (now (masks .exit)) (now (numbers .entry)) (now (places .entry)) (now (order .exit)) ts;
           answer = r;
         })
         (cancelOf (tableOf (now (masks .entry)) (now (numbers .entry)) (now (places .entry))
-        (now (order .entry))) link number) ⌝ }
+        (now (order .entry)) ts) link number)) ⌝ }
 {
     if 32 <= link {
         return CancelAnswer::Refused(OUT_OF_RANGE);

@@ -186,16 +186,17 @@ module _ (w : Table) (t : Tied w) where
   free-same (suc k) p q n = rw (number-same p q n, free-same k p q (after n))
 
   -- the same asks are refused, with the same number
-  pub ask-same : (l : ℕ) (n : FrontNumber) (p : ℕ)
-      → askRefusalOf (w .masks) (w .numbers) (w .places) l n p ≡ askRefusal (modelOf w) l n p
+  pub ask-same : (l : ℕ) (n : FrontNumber) (p time : ℕ)
+      → askRefusalOf (w .masks) (w .numbers) (w .places) l n p time ≡ askRefusal (modelOf w) l n p time
   unfolding askRefusalOf loadRefusal askRefusal
-  ask-same l n p = go (leb 8 p) refl
+  ask-same l n p time = go (leb 8 p) refl
     where
       go : (x : Bool) → leb 8 p ≡ x
           → _≡_ {A = ℕ}
           (first
           ((leb 32 l, 30)
           ∷ (leb 8 p, 30)
+          ∷ (leb 4611686018427387904 time, 30)
           ∷ (same (n .0) (pos 0), 12)
           ∷ (not (eqb (seek (isFront (w .numbers) (w .places) l n) (slots (used w))) 64), 31)
           ∷ [])
@@ -206,6 +207,7 @@ module _ (w : Table) (t : Tied w) where
           (first
           ((leb 32 l, 30)
           ∷ (leb 8 p, 30)
+          ∷ (leb 4611686018427387904 time, 30)
           ∷ (same (n .0) (pos 0), 12)
           ∷ (not (eqb (length (matching (Cancel l n) (inFlight w))) 0), 31)
           ∷ (leb 16 (load (inFlight w) p), 32)

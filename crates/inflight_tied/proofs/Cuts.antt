@@ -19,7 +19,7 @@ use Rattle.inflight_tied.proofs.LaidOut.{laid-line, anew-length, aged-a
 
 -- a table whose masks lose the slots of one, with another order
 abbrev pub cutBy : Table → ℕ → List ℕ → Table
-cutBy w g os = tableOf (cutAll g (w .masks)) (w .numbers) (w .places) os
+cutBy w g os = tableOf (cutAll g (w .masks)) (w .numbers) (w .places) os (w .times)
 
 module _ (w : Table) (g : ℕ) (f : g < 2 ^ 64) (t : Tied w) where
   left-fits : cut g (used w) < 2 ^ 64

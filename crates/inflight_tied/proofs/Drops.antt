@@ -109,9 +109,9 @@ gather-fits f (suc k) i m a h l = go (eqb (m % 2) 1) (λ b q. gather-fits f k (s
     go true r = r (pick (f i) (bitOr a (2 ^ i)) a) (side (f i))
     go false r = r a l
 
--- the slots of a link, bit by bit
-linked-bit : (f : ℕ → Bool) (m i : ℕ) → i < 64 → bitAt i (gather f (slots m) 0) ≡ pick (f i) (bitAt i m) 0
-linked-bit f m i h =
+-- the slots of a mask that pass a test, bit by bit
+pub gathered-bit : (f : ℕ → Bool) (m i : ℕ) → i < 64 → bitAt i (gather f (slots m) 0) ≡ pick (f i) (bitAt i m) 0
+gathered-bit f m i h =
     let z : 0 + i ≡ i = omega arith in
     let b = gather-bit f 64 0 m 0 i h in
     let e : bitAt (0 + i) 0 ≡ 0 = bit-of-zero (0 + i) in
@@ -140,7 +140,7 @@ module _ (w : Table) (t : Tied w) (k : Key) (g : ℕ)
       has-pick (matches k (entry w x)) (bitAt x g) (bitAt x (used w)) u (bits x h)
       ∙ ap (λ (j : ℕ). eqb (bitAt j g) 1) (sym z)
 
-within-below : (g : ℕ) (xs : List ℕ) → Below 64 xs → Below 64 (within g xs)
+pub within-below : (g : ℕ) (xs : List ℕ) → Below 64 xs → Below 64 (within g xs)
 unfolding within Below
 within-below g [] b = b
 within-below g (x ∷ xs) b = go (has g x) (within-below g xs (b .1))
@@ -160,11 +160,11 @@ slots-fit w t (P.Publisher p) = t .narrow p
 peer-bit : (w : Table) → Tied w → (peer : Peer) → noPeer peer ≡ false → (i : ℕ) → i < 64
     → bitAt i (slotsOf (w .masks) (w .places) peer) ≡ pick (matches (keyOf peer) (entry w i)) (bitAt i (used w)) 0
 unfolding matches entry
-peer-bit w t (P.Front l) r i h = linked-bit (isLink (w .places) l) (used w) i h
+peer-bit w t (P.Front l) r i h = gathered-bit (isLink (w .places) l) (used w) i h
 peer-bit w t (P.Publisher p) r i h = t .own p (leb-false 8 p r) i h
 
 -- and what stands at the peer's offset are the other ends
-peer-ends : (w : Table) (peer : Peer) (xs : List ℕ) → Below 64 xs
+pub peer-ends : (w : Table) (peer : Peer) (xs : List ℕ) → Below 64 xs
     → endsOf (w .numbers) (w .places) (otherAt peer) xs ≡ otherEnds (keyOf peer) (map (entry w) xs)
 unfolding endsOf otherEnds entry Below
 peer-ends w peer [] b = refl
@@ -210,7 +210,7 @@ drop-same w t k g base out fits hits ends = go (ltb (length out) (2 * length (le
           slice = rw (n, e) (ap (λ (z : List ℤ). overFront z out) (ends ∙ ap (otherEnds k) (sym m)));
           table =
               rw (n, e)
-              (ap (λ (l : List Request). record { requests = l; next = modelOf w .next })
+              (ap (λ (l : List Request). record { requests = l; next = modelOf w .next; seen = modelOf w .seen })
               (struck-standing w k g t hits fits));
         }
 

@@ -11,4 +11,5 @@ pub mod Struck
 pub mod Takes
 pub mod Drops
 pub mod Asks
+pub mod RunOuts
 pub mod Simulated

@@ -89,9 +89,9 @@ power-fits s h =
     let w : 2 ^ s ≤ 2 ^ 63 = pow-le-pow-right z v in
     omega arith
 
-module _ (w : Table) (t : Tied w) (l : ℕ) (n : FrontNumber) (p s : ℕ) (g : PublisherNumber) (p8 : p < 8) (s64 : s < 64)
+module _ (w : Table) (t : Tied w) (l : ℕ) (n : FrontNumber) (p s : ℕ) (g : PublisherNumber) (time timeout : ℕ) (p8 : p < 8) (s64 : s < 64)
     (fr : bitAt s (used w) ≡ 0) (lm : length (w .masks) ≡ 9) (lp : length (w .places) ≡ 128) where
-  used-placed : used (placed w l n p s g) ≡ bitOr (used w) (2 ^ s)
+  used-placed : used (placed w l n p s g time timeout) ≡ bitOr (used w) (2 ^ s)
   used-placed =
       getD-set-other (set (w .masks) 0 (bitOr (used w) (2 ^ s))) (1 + p) 0 (bitOr (mine w p) (2 ^ s)) 0
       (λ e. omega arith)
@@ -131,28 +131,28 @@ module _ (w : Table) (t : Tied w) (l : ℕ) (n : FrontNumber) (p s : ℕ) (g : P
       aged-snoc (w .order) s (ones (used w)) 0 (line w) (omega arith) (t .tie s s64 ∙ fr)
       (let b = tied-length (used w) (line w) (t .fits) (t .low) (t .tie) in omega arith) (t .aged)
 
-  pub placed-line : line (placed w l n p s g) ≡ line w ++ s ∷ []
+  pub placed-line : line (placed w l n p s g time timeout) ≡ line w ++ s ∷ []
   unfolding line
   placed-line =
       ap (λ (u : ℕ). take (ones u) (laidOut (set (w .order) s (ones (used w))) (slots u) (replicate 64 0))) used-placed
       ∙ laid-line (set (w .order) s (ones (used w))) (bitOr (used w) (2 ^ s)) (line w ++ s ∷ []) or-fits
       (below-snoc 64 s (line w) s64 (t .low)) line-occ placed-aged
 
-  mine-same : mine (placed w l n p s g) p ≡ bitOr (mine w p) (2 ^ s)
+  mine-same : mine (placed w l n p s g time timeout) p ≡ bitOr (mine w p) (2 ^ s)
   mine-same =
       getD-set-same (set (w .masks) 0 (bitOr (used w) (2 ^ s))) (1 + p) (bitOr (mine w p) (2 ^ s)) 0
       (let a = length-set (w .masks) 0 (bitOr (used w) (2 ^ s)) in omega arith)
 
-  mine-other : (q : ℕ) → (q ≡ p → ⊥) → mine (placed w l n p s g) q ≡ mine w q
+  mine-other : (q : ℕ) → (q ≡ p → ⊥) → mine (placed w l n p s g time timeout) q ≡ mine w q
   mine-other q h =
       getD-set-other (set (w .masks) 0 (bitOr (used w) (2 ^ s))) (1 + p) (1 + q) (bitOr (mine w p) (2 ^ s)) 0
       (λ e. h (omega arith))
       ∙ getD-set-other (w .masks) 0 (1 + q) (bitOr (used w) (2 ^ s)) 0 (λ e. omega arith)
 
-  place-same : getD (placed w l n p s g .places) (64 + s) 0 ≡ p
+  place-same : getD (placed w l n p s g time timeout .places) (64 + s) 0 ≡ p
   place-same = getD-set-same (set (w .places) s l) (64 + s) p 0 (let a = length-set (w .places) s l in omega arith)
 
-  place-other : (i : ℕ) → (s ≡ i → ⊥) → getD (placed w l n p s g .places) (64 + i) 0 ≡ getD (w .places) (64 + i) 0
+  place-other : (i : ℕ) → (s ≡ i → ⊥) → getD (placed w l n p s g time timeout .places) (64 + i) 0 ≡ getD (w .places) (64 + i) 0
   place-other i h =
       getD-set-other (set (w .places) s l) (64 + s) (64 + i) p 0 (λ e. h (omega arith))
       ∙ getD-set-other (w .places) s (64 + i) l 0 (λ e. omega arith)
@@ -165,20 +165,20 @@ module _ (w : Table) (t : Tied w) (l : ℕ) (n : FrontNumber) (p s : ℕ) (g : P
   nothing false = refl
 
   own-at : (q : ℕ) → q < 8
-      → bitAt s (mine (placed w l n p s g) q)
-      ≡ pick (eqb (getD (placed w l n p s g .places) (64 + s) 0) q) (bitAt s (bitOr (used w) (2 ^ s))) 0
+      → bitAt s (mine (placed w l n p s g time timeout) q)
+      ≡ pick (eqb (getD (placed w l n p s g time timeout .places) (64 + s) 0) q) (bitAt s (bitOr (used w) (2 ^ s))) 0
   own-at q h = go (eqb p q) refl
     where
       at : (x : Bool) → eqb p q ≡ x
-          → pick (eqb (getD (placed w l n p s g .places) (64 + s) 0) q) (bitAt s (bitOr (used w) (2 ^ s))) 0
+          → pick (eqb (getD (placed w l n p s g time timeout .places) (64 + s) 0) q) (bitAt s (bitOr (used w) (2 ^ s))) 0
           ≡ pick x 1 0
       at x e = rw (place-same, or-self-bit (used w), e)
 
       go : (x : Bool) → eqb p q ≡ x
-          → bitAt s (mine (placed w l n p s g) q)
-          ≡ pick (eqb (getD (placed w l n p s g .places) (64 + s) 0) q) (bitAt s (bitOr (used w) (2 ^ s))) 0
+          → bitAt s (mine (placed w l n p s g time timeout) q)
+          ≡ pick (eqb (getD (placed w l n p s g time timeout .places) (64 + s) 0) q) (bitAt s (bitOr (used w) (2 ^ s))) 0
       go true e =
-          ap (λ (k : ℕ). bitAt s (mine (placed w l n p s g) k)) (sym (eqb-true p q e))
+          ap (λ (k : ℕ). bitAt s (mine (placed w l n p s g time timeout) k)) (sym (eqb-true p q e))
           ∙ ap (bitAt s) mine-same
           ∙ or-self-bit (mine w p)
           ∙ sym (at true e)
@@ -190,27 +190,27 @@ module _ (w : Table) (t : Tied w) (l : ℕ) (n : FrontNumber) (p s : ℕ) (g : P
           ∙ sym (at false e)
 
   own-off : (q : ℕ) → q < 8 → (i : ℕ) → i < 64 → (s ≡ i → ⊥)
-      → bitAt i (mine (placed w l n p s g) q)
-      ≡ pick (eqb (getD (placed w l n p s g .places) (64 + i) 0) q) (bitAt i (bitOr (used w) (2 ^ s))) 0
+      → bitAt i (mine (placed w l n p s g time timeout) q)
+      ≡ pick (eqb (getD (placed w l n p s g time timeout .places) (64 + i) 0) q) (bitAt i (bitOr (used w) (2 ^ s))) 0
   own-off q h i k d = old (eqb p q) refl ∙ t .own q h i k ∙ sym (rw (place-other i d, or-other i (used w) d))
     where
-      old : (x : Bool) → eqb p q ≡ x → bitAt i (mine (placed w l n p s g) q) ≡ bitAt i (mine w q)
+      old : (x : Bool) → eqb p q ≡ x → bitAt i (mine (placed w l n p s g time timeout) q) ≡ bitAt i (mine w q)
       old true e =
           let z = eqb-true p q e in
-          ap (λ (k : ℕ). bitAt i (mine (placed w l n p s g) k)) (sym z)
+          ap (λ (k : ℕ). bitAt i (mine (placed w l n p s g time timeout) k)) (sym z)
           ∙ ap (bitAt i) mine-same
           ∙ or-other i (mine w p) d
           ∙ ap (λ (k : ℕ). bitAt i (mine w k)) z
       old false e = ap (bitAt i) (mine-other q (λ z. eqb-false p q e (sym z)))
 
-  narrow-placed : (q : ℕ) → mine (placed w l n p s g) q < 2 ^ 64
+  narrow-placed : (q : ℕ) → mine (placed w l n p s g time timeout) q < 2 ^ 64
   narrow-placed q = go (eqb p q) refl
     where
-      go : (x : Bool) → eqb p q ≡ x → mine (placed w l n p s g) q < 2 ^ 64
+      go : (x : Bool) → eqb p q ≡ x → mine (placed w l n p s g time timeout) q < 2 ^ 64
       go true e = rw (← eqb-true p q e, mine-same) (or-lt 64 (mine w p) (2 ^ s) (t .narrow p) (power-fits s s64))
       go false e = rw (mine-other q (λ z. eqb-false p q e (sym z))) (t .narrow q)
 
-  pub placed-tied : Tied (placed w l n p s g)
+  pub placed-tied : Tied (placed w l n p s g time timeout)
   placed-tied =
       record {
         fits = rw used-placed or-fits;
@@ -219,19 +219,19 @@ module _ (w : Table) (t : Tied w) (l : ℕ) (n : FrontNumber) (p s : ℕ) (g : P
         tie = λ i k. ap (occ i) placed-line ∙ line-occ i k ∙ ap (bitAt i) (sym used-placed);
         own =
             λ q k i j. own-all q k i j
-            ∙ ap (λ (u : ℕ). pick (eqb (getD (placed w l n p s g .places) (64 + i) 0) q) (bitAt i u) 0)
+            ∙ ap (λ (u : ℕ). pick (eqb (getD (placed w l n p s g time timeout .places) (64 + i) 0) q) (bitAt i u) 0)
             (sym used-placed);
         whole = length-set (w .order) s (ones (used w)) ∙ t .whole;
         aged = rw placed-line placed-aged;
       }
     where
       own-all : (q : ℕ) → q < 8 → (i : ℕ) → i < 64
-          → bitAt i (mine (placed w l n p s g) q)
-          ≡ pick (eqb (getD (placed w l n p s g .places) (64 + i) 0) q) (bitAt i (bitOr (used w) (2 ^ s))) 0
+          → bitAt i (mine (placed w l n p s g time timeout) q)
+          ≡ pick (eqb (getD (placed w l n p s g time timeout .places) (64 + i) 0) q) (bitAt i (bitOr (used w) (2 ^ s))) 0
       own-all q k i j = go (eqb s i) refl
         where
           go : (x : Bool) → eqb s i ≡ x
-              → bitAt i (mine (placed w l n p s g) q)
-              ≡ pick (eqb (getD (placed w l n p s g .places) (64 + i) 0) q) (bitAt i (bitOr (used w) (2 ^ s))) 0
+              → bitAt i (mine (placed w l n p s g time timeout) q)
+              ≡ pick (eqb (getD (placed w l n p s g time timeout .places) (64 + i) 0) q) (bitAt i (bitOr (used w) (2 ^ s))) 0
           go true e = rw (← eqb-true s i e) (own-at q k)
           go false e = own-off q k i j (eqb-false s i e)

@@ -10,13 +10,13 @@ use lib.Dec.{eqb, leb, ltb}
 use lib.IntN.{ℤ, pos}
 use lib.Signed.{ltZ}
 use lib.Count.{ones, ones-ones}
-use lib.ListN.{length, take, drop, getD, replicate, length-set, length-map, length-append}
-use lib.Seq.{drop-at, length-take-le}
+use lib.ListN.{length, take, drop, getD, set, replicate, length-set, length-map, length-append}
+use lib.Seq.{drop-at, getD-set-same, length-take-le}
 use Rattle.wire.specs.Choice.{pick}
 use Rattle.wire.proofs.ChoiceLaws.{by-row}
 use Rattle.inflight.specs.Numbers.{same}
-use Rattle.inflight.specs.Model.{Model, askRefusal, empty, noLink, noPublisher, noPeer}
-use Rattle.inflight.specs.Calls.{Call, Heard, ask, reply, cancel, gone, asked, replied, cancelled, dropped}
+use Rattle.inflight.specs.Model.{Model, askRefusal, empty, noLink, noPublisher, noPeer, noTime}
+use Rattle.inflight.specs.Calls.{Call, Heard, ask, reply, cancel, gone, runOut, asked, replied, cancelled, dropped}
 use Rattle.inflight.specs.Calls.{tableHeard, tableAfter, tableRun, tableAt, modelHeard, modelAfter, modelRun, modelAt}
 use Rattle.inflight.specs.declared.FrontNumber.{FrontNumber}
 use Rattle.inflight.specs.declared.PublisherNumber.{PublisherNumber}
@@ -27,7 +27,8 @@ use Rattle.inflight.specs.declared.FreshAnswer.the-variants as F
 use Rattle.inflight.specs.Masks.{bitAt, outside, laidOut, seek, slots, lowestFree}
 use Rattle.inflight.specs.Tables.{Table, Sized, used, mine, line, slotsOf, leaving, struck, freed, placed, givenOf}
 use Rattle.inflight.specs.Tables.{isNumber, isFront, askRefusalOf, askOf, replyOf, cancelOf, otherAt, dropOf, goneOf}
-use Rattle.inflight.specs.Tables.{Replied, Cancelled, freshAnswer, freshMasks, freshNumbers, freshOf}
+use Rattle.inflight.specs.Tables.{Replied, Cancelled, freshAnswer, freshMasks, freshNumbers, freshTimes, freshOf, timedOf}
+use Rattle.inflight.specs.Tables.{latestOf, dueOf, Dropped, droppedAt, runOutOf}
 use Rattle.inflight_model.proofs.Capacity.{accepts, bounded-space}
 use Rattle.inflight_model.proofs.Invariant.{Ranged, Invariant, inv-call, inv-empty}
 use Rattle.inflight_tied.proofs.Tied.{occ, Below, Aged, Tied, entry, inFlight, modelOf}
@@ -39,6 +40,7 @@ use Rattle.inflight_tied.proofs.Loads.{length-standing}
 use Rattle.inflight_tied.proofs.Takes.{reply-same, cancel-same}
 use Rattle.inflight_tied.proofs.Drops.{slots-fit, gone-same}
 use Rattle.inflight_tied.proofs.Asks.{ask-all}
+use Rattle.inflight_tied.proofs.RunOuts.{seeing, run-out-same}
 
 -- ---- the tie and the sizes are kept
 
@@ -54,10 +56,21 @@ struck-sized w g l =
       numbers = l .numbers;
       places = l .places;
       order = anew-length (outside g (line w)) 0 (w .order) ∙ l .order;
+      times = l .times;
     }
 
 struck-kept : (w : Table) (g : ℕ) → g < 2 ^ 64 → Kept w → Kept (struck w g)
 struck-kept w g f h = record { tied = struck-tied w g f (h .tied); sized = struck-sized w g (h .sized) }
+
+seeing-sized : (w : Table) (now : ℕ) → Sized w → Sized (seeing w now)
+seeing-sized w now l =
+    record {
+      masks = l .masks;
+      numbers = l .numbers;
+      places = l .places;
+      order = l .order;
+      times = length-set (w .times) 64 now ∙ l .times;
+    }
 
 freed-sized : (w : Table) (s : ℕ) → Sized w → Sized (freed w s)
 unfolding freed
@@ -67,28 +80,32 @@ freed-sized w s l =
       numbers = l .numbers;
       places = l .places;
       order = length-map (w .order) _ ∙ l .order;
+      times = l .times;
     }
 
-placed-sized : (w : Table) (a : ℕ) (n : FrontNumber) (p s : ℕ) (g : PublisherNumber) → Sized w
-    → Sized (placed w a n p s g)
-placed-sized w a n p s g l =
+placed-sized : (w : Table) (a : ℕ) (n : FrontNumber) (p s : ℕ) (g : PublisherNumber) (time timeout : ℕ) → Sized w
+    → Sized (placed w a n p s g time timeout)
+unfolding timedOf
+placed-sized w a n p s g time timeout l =
     record {
       masks = simp length-set (l .masks);
       numbers = simp length-set (l .numbers);
       places = simp length-set (l .places);
       order = simp length-set (l .order);
+      times = simp length-set (l .times);
     }
 
-ask-sized : (w : Table) (l : ℕ) (n : FrontNumber) (p : ℕ) → Sized w → Sized (askOf w l n p .table)
+ask-sized : (w : Table) (l : ℕ) (n : FrontNumber) (p time timeout : ℕ) → Sized w
+    → Sized (askOf w l n p time timeout .table)
 unfolding askOf
-ask-sized w l n p h =
-    go (eqb (askRefusalOf (w .masks) (w .numbers) (w .places) l n p) 0) refl (leb 64 (lowestFree (used w))) refl
+ask-sized w l n p time timeout h =
+    go (eqb (askRefusalOf (w .masks) (w .numbers) (w .places) l n p time) 0) refl (leb 64 (lowestFree (used w))) refl
   where
-    go : (x : Bool) → eqb (askRefusalOf (w .masks) (w .numbers) (w .places) l n p) 0 ≡ x → (y : Bool)
-        → leb 64 (lowestFree (used w)) ≡ y → Sized (askOf w l n p .table)
+    go : (x : Bool) → eqb (askRefusalOf (w .masks) (w .numbers) (w .places) l n p time) 0 ≡ x → (y : Bool)
+        → leb 64 (lowestFree (used w)) ≡ y → Sized (askOf w l n p time timeout .table)
     go false e y d = rw e h
     go true e true d = rw (e, d) h
-    go true e false d = rw (e, d) (placed-sized w l n p (lowestFree (used w)) (givenOf w p) h)
+    go true e false d = rw (e, d) (placed-sized w l n p (lowestFree (used w)) (givenOf w p) time timeout h)
 
 reply-sized : (w : Table) (p : ℕ) (n : PublisherNumber) → Sized w → Sized (replyOf w p n .table)
 unfolding replyOf
@@ -126,6 +143,20 @@ gone-kept w peer out h = go (noPeer peer) refl
         rw e
         (drop-kept w (slotsOf (w .masks) (w .places) peer) (otherAt peer) out (slots-fit w (h .tied) peer) h)
 
+run-out-sized : (w : Table) (time : ℕ) (out : List ℤ) → Sized w → Sized (runOutOf w time out .table)
+unfolding runOutOf dropOf struck
+run-out-sized w time out h =
+    let sized : (Dropped → Type 0) = λ r. Sized (r .table) in
+    by-row sized (noTime time) _ _ (λ e. h)
+    (λ e. by-row (λ r. Sized (droppedAt (w .times) now r .table)) (ltb (length out) (2 * length (leaving w g))) _ _ (λ s. h)
+    (λ s. seeing-sized (struck w g) now (struck-sized w g h)))
+  where
+    now : ℕ
+    now = latestOf (w .times) time
+
+    g : ℕ
+    g = dueOf (w .masks) (w .times) now
+
 -- ---- one call
 
 pub record Good (w : Table) : Type 0 where
@@ -141,17 +172,17 @@ heard-eq : {a b : DropAnswer} {x y : List ℤ} → a ≡ b → x ≡ y → dropp
 heard-eq p q = rw (p, q)
 
 pub same-call : (w : Table) (c : Call) → Good w → Same w c
-same-call w (ask l n p) g =
-    let r = ask-all w (g .kept .tied) (g .kept .sized) l n p (λ e. room e) in
+same-call w (ask l n p time timeout) g =
+    let r = ask-all w (g .kept .tied) (g .kept .sized) (g .inv .seen) l n p time timeout (λ e. room e) in
     record {
       answer = ap asked (r .answer);
       table = r .table;
-      kept = record { tied = r .kept; sized = ask-sized w l n p (g .kept .sized) };
+      kept = record { tied = r .kept; sized = ask-sized w l n p time timeout (g .kept .sized) };
     }
   where
-    room : askRefusal (modelOf w) l n p ≡ 0 → ones (used w) < 64
+    room : askRefusal (modelOf w) l n p time ≡ 0 → ones (used w) < 64
     room e =
-        let a = bounded-space (inFlight w) p (g .inv .bounded) (accepts (modelOf w) l n p e) in
+        let a = bounded-space (inFlight w) p (g .inv .bounded) (accepts (modelOf w) l n p time e) in
         let b = length-standing w (g .kept .tied) in
         omega (arith, a, b)
 same-call w (reply p n) g =
@@ -171,6 +202,13 @@ same-call w (cancel l n) g =
 same-call w (gone peer out) g =
     let r = gone-same w (g .kept .tied) peer out in
     record { answer = heard-eq (r .answer) (r .slice); table = r .table; kept = gone-kept w peer out (g .kept) }
+same-call w (runOut time out) g =
+    let r = run-out-same w (g .kept .tied) (g .kept .sized) (g .inv .seen) time out in
+    record {
+      answer = heard-eq (r .answer) (r .slice);
+      table = r .table;
+      kept = record { tied = r .kept; sized = run-out-sized w time out (g .kept .sized) };
+    }
 
 pub good-after : (w : Table) (c : Call) → Good w → Good (tableAfter w c)
 good-after w c g =
@@ -241,10 +279,11 @@ module _ (w : Table) (n : PublisherNumber) (z : Sized w) (low : ltZ (n .0) (pos 
         numbers = take 128 (w .numbers) ++ replicate 8 (n .0);
         places = w .places;
         order = w .order;
+        times = set (w .times) 64 0;
       }
 
   fresh-is : freshOf w n .table ≡ table
-  unfolding freshOf freshMasks freshNumbers table
+  unfolding freshOf freshMasks freshNumbers freshTimes table
   fresh-is = rw low
 
   no-line : line table ≡ []
@@ -261,10 +300,18 @@ module _ (w : Table) (n : PublisherNumber) (z : Sized w) (low : ltZ (n .0) (pos 
       (λ (xs : List ℕ). record {
         requests = map (entry table) xs;
         next = map (λ x. record { 0 = x }) (drop 128 (take 128 (w .numbers) ++ replicate 8 (n .0)));
+        seen = getD (set (w .times) 64 0) 64 0;
       })
       no-line
-      ∙ ap (λ (xs : List ℤ). record { requests = []; next = map (λ x. record { 0 = x }) xs })
+      ∙ ap
+      (λ (xs : List ℤ). record {
+        requests = [];
+        next = map (λ x. record { 0 = x }) xs;
+        seen = getD (set (w .times) 64 0) 64 0;
+      })
       (drop-at (take 128 (w .numbers)) (replicate 8 (n .0)) 128 front)
+      ∙ ap (λ (s : ℕ). record { requests = []; next = replicate 8 n; seen = s })
+      (getD-set-same (w .times) 64 0 0 (let a = z .times in omega arith))
 
   table-tied : Tied table
   unfolding table Below Aged
@@ -292,6 +339,7 @@ module _ (w : Table) (n : PublisherNumber) (z : Sized w) (low : ltZ (n .0) (pos 
         numbers = length-append (take 128 (w .numbers)) (replicate 8 (n .0)) ∙ ap (λ (k : ℕ). k + 8) front;
         places = z .places;
         order = z .order;
+        times = length-set (w .times) 64 0 ∙ z .times;
       }
 
   -- it reads as the empty model

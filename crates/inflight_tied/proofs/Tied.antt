@@ -47,10 +47,16 @@ entry w x =
       front = record { 0 = getD (w .numbers) x (pos 0) };
       publisher = getD (w .places) (64 + x) 0;
       number = record { 0 = getD (w .numbers) (64 + x) (pos 0) };
+      deadline = getD (w .times) x 0;
     }
 
 unfoldable pub inFlight : Table → List Request
 inFlight w = map (entry w) (line w)
 
 abbrev pub modelOf : Table → Model
-modelOf w = record { requests = inFlight w; next = map (λ z. record { 0 = z }) (drop 128 (w .numbers)) }
+modelOf w =
+    record {
+      requests = inFlight w;
+      next = map (λ z. record { 0 = z }) (drop 128 (w .numbers));
+      seen = getD (w .times) 64 0;
+    }

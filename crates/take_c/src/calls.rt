@@ -6,6 +6,8 @@ use inflight::FrontNumber;
 use inflight::PublisherNumber;
 use inflight::ReplyAnswer;
 ghost use mathlib.Core.Path.{_≡_};
+ghost use mathlib.Core.List.{List};
+ghost use Prim.Native.Nat.{ℕ};
 ghost use Rattle.inflight.specs.Tables.{tableOf, replyOf, cancelOf};
 ghost use Rattle.take_c.specs.TakeFields.{replyFields, cancelFields};
 
@@ -44,7 +46,8 @@ fn cancel_fields(a: CancelAnswer) -> RelayCancelled
     }
 }
 
-// Reply (publisher, number): hands back link and front number, and frees the request.
+// Reply (publisher, number): hands back link and front number, and frees the request, whatever the
+// times ts are.
 #[no_mangle]
 pub extern "C" fn relay_reply_lent(
     masks: &mut [u64; 9],
@@ -54,18 +57,19 @@ pub extern "C" fn relay_reply_lent(
     publisher: u8,
     number: PublisherNumber,
 ) -> RelayReplied
-    ensures { λ r. ⌜ (r ≡ replyFields (replyOf
+    ensures { λ r. ⌜ ((ts : List ℕ) → (r ≡ replyFields (replyOf
         (tableOf (now (masks .entry)) (now (numbers .entry)) (now (places .entry))
-        (now (order .entry))) publisher number .answer))
-        × (tableOf (now (masks .exit)) (now (numbers .entry)) (now (places .entry)) (now (order .exit)) ≡ replyOf
+        (now (order .entry)) ts) publisher number .answer))
+        × (tableOf (now (masks .exit)) (now (numbers .entry)) (now (places .entry)) (now (order .exit)) ts ≡ replyOf
         (tableOf (now (masks .entry)) (now (numbers .entry)) (now (places .entry))
-        (now (order .entry))) publisher number .table) ⌝ }
+        (now (order .entry)) ts) publisher number .table)) ⌝ }
 {
     let a = inflight_take::reply(masks, numbers, places, order, publisher, number);
     reply_fields(a)
 }
 
-// Cancel (link, number): hands back publisher and publisher number, and frees the request.
+// Cancel (link, number): hands back publisher and publisher number, and frees the request, whatever the
+// times ts are.
 #[no_mangle]
 pub extern "C" fn relay_cancel_lent(
     masks: &mut [u64; 9],
@@ -75,12 +79,12 @@ pub extern "C" fn relay_cancel_lent(
     link: u8,
     number: FrontNumber,
 ) -> RelayCancelled
-    ensures { λ r. ⌜ (r ≡ cancelFields (cancelOf
+    ensures { λ r. ⌜ ((ts : List ℕ) → (r ≡ cancelFields (cancelOf
         (tableOf (now (masks .entry)) (now (numbers .entry)) (now (places .entry))
-        (now (order .entry))) link number .answer))
-        × (tableOf (now (masks .exit)) (now (numbers .entry)) (now (places .entry)) (now (order .exit)) ≡ cancelOf
+        (now (order .entry)) ts) link number .answer))
+        × (tableOf (now (masks .exit)) (now (numbers .entry)) (now (places .entry)) (now (order .exit)) ts ≡ cancelOf
         (tableOf (now (masks .entry)) (now (numbers .entry)) (now (places .entry))
-        (now (order .entry))) link number .table) ⌝ }
+        (now (order .entry)) ts) link number .table)) ⌝ }
 {
     let a = inflight_take::cancel(masks, numbers, places, order, link, number);
     cancel_fields(a)

@@ -2,8 +2,8 @@
 // wraps one call of the crate `inflight_take` and has its contract; the other calls are in the crates `ask_c` and
 // `drops_c`.
 //
-// The caller keeps the table and lends it, as the four arrays of crate `inflight`: a call updates them where they
-// stand, copies none, allocates nothing and decides nothing. include/relay.h has the struct of the four, and a call
+// The caller keeps the table and lends it, as arrays of crate `inflight`: a call updates them where they
+// stand, copies none, allocates nothing and decides nothing. include/relay.h has the struct of them, and a call
 // on it for each of these. An answer is a struct of numbers: `refusal` is the refusal's number, or 0, and the other
 // fields of a refusal are 0.
 mod calls;

@@ -19,20 +19,20 @@ use Rattle.inflight.specs.declared.CancelAnswer.{CancelAnswer}
 use Rattle.inflight.specs.declared.CancelAnswer.the-variants as C
 use Rattle.inflight.specs.declared.DropAnswer.{DropAnswer}
 use Rattle.inflight.specs.declared.DropAnswer.the-variants as D
-use Rattle.inflight.specs.Tables.{Table, askOf, replyOf, cancelOf, goneOf}
+use Rattle.inflight.specs.Tables.{Table, askOf, replyOf, cancelOf, goneOf, runOutOf}
 use Rattle.inflight.specs.declared.Peer.{Peer}
 use Rattle.inflight.specs.declared.Peer.the-variants as P
 use lib.IntN.{ℤ}
 use Rattle.walk_turn.specs.Lines.{askLine, replyLine, cancelLine, droppedLines, callLines, countOf}
-use Rattle.walk_turn.specs.Lines.{askWord, replyWord, cancelWord, goneWord}
+use Rattle.walk_turn.specs.Lines.{askWord, replyWord, cancelWord, goneWord, outWord}
 use Rattle.walk_turn.specs.Turn.{Turned, linesOf, afterEvent, turnOf, lentSlice}
 use Rattle.walk_turn.specs.declared.Event.{Event}
-use Rattle.walk_turn.specs.declared.Event.the-variants.{Ask, Reply, Cancel, Gone, End, Cut, Unknown}
+use Rattle.walk_turn.specs.declared.Event.the-variants.{Ask, Reply, Cancel, Gone, AskBy, RunOut, End, Cut, Unknown}
 use Rattle.walk_turn.proofs.LineLaws.{line-most, pair-most, refused-most, drops-most}
-use Rattle.walk_turn.proofs.TurnLaws.{gone-count}
-use Rattle.walk.specs.Events.{eventOf, recordSize, waits}
+use Rattle.walk_turn.proofs.TurnLaws.{gone-count, run-out-count}
+use Rattle.walk_events.specs.Events.{eventOf, recordSize, waits}
 use Rattle.walk.specs.Walk.{Outcome, ends, after, walkFrom, walkOf, Told}
-use Rattle.walk.proofs.EventLaws.{record-fits}
+use Rattle.walk_events.proofs.EventLaws.{record-fits}
 
 -- ---- the lines of one event are short
 
@@ -62,12 +62,16 @@ word-short (P.Publisher p) = omega arith
 
 pub lines-short : (t : Table) (e : Event) → length (linesOf t e) ≤ 4096
 unfolding linesOf callLines
-lines-short t (Ask l n p) = ask-short (askOf t l n p .answer)
+lines-short t (Ask l n p) = ask-short (askOf t l n p 0 0 .answer)
 lines-short t (Reply p n) = reply-short (replyOf t p n .answer)
 lines-short t (Cancel l n) = cancel-short (cancelOf t l n .answer)
 lines-short t (Gone peer) =
     dropped-short (goneWord peer) (goneOf t peer lentSlice .answer) (goneOf t peer lentSlice .slice) (word-short peer)
     (gone-count t peer lentSlice)
+lines-short t (AskBy l n p time timeout) = ask-short (askOf t l n p time timeout .answer)
+lines-short t (RunOut time) =
+    dropped-short outWord (runOutOf t time lentSlice .answer) (runOutOf t time lentSlice .slice) (omega arith)
+    (run-out-count t time lentSlice)
 lines-short t End = omega (arith, refused-most 35)
 lines-short t Cut = omega (arith, refused-most 35)
 lines-short t Unknown = omega (arith, refused-most 35)
@@ -79,6 +83,8 @@ no-call t (Ask l n p) h = absurd (omega arith)
 no-call t (Reply p n) h = absurd (omega arith)
 no-call t (Cancel l n) h = absurd (omega arith)
 no-call t (Gone peer) h = absurd (omega arith)
+no-call t (AskBy l n p time timeout) h = absurd (omega arith)
+no-call t (RunOut time) h = absurd (omega arith)
 no-call t End h = refl
 no-call t Cut h = refl
 no-call t Unknown h = refl

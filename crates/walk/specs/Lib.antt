@@ -1,3 +1,3 @@
--- The definitions that the contract of `walk` cites, in reading order; those of one event are in crate walk_turn.
-pub mod Events
+-- The definitions that the contract of `walk` cites; those of the event format are in crate walk_events, those of one
+-- event in crate walk_turn.
 pub mod Walk

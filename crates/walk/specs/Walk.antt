@@ -10,7 +10,7 @@ use lib.Seq.{sets}
 use Rattle.wire.specs.Choice.{pick}
 use Rattle.inflight.specs.Tables.{Table}
 use Rattle.walk_turn.specs.Turn.{linesOf, afterEvent}
-use Rattle.walk.specs.Events.{eventOf, recordSize, waits}
+use Rattle.walk_events.specs.Events.{eventOf, recordSize, waits}
 use Rattle.walk.specs.declared.Walked.{Walked}
 
 -- how far a walk comes, and its text

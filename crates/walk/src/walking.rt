@@ -1,9 +1,9 @@
 // The walk over a slice of events, into a slice of text.
 use super::Walked;
-use super::events::event;
-use super::events::must_wait;
-use super::events::record_size;
 use store_bytes::copy;
+use walk_events::event;
+use walk_events::must_wait;
+use walk_events::record_size;
 use walk_turn::turn;
 use wire::left;
 ghost use mathlib.Core.Path.{_≡_};
@@ -26,6 +26,7 @@ fn walk_with(
     numbers: &mut [i64; 136],
     places: &mut [u8; 128],
     order: &mut [u8; 64],
+    times: &mut [u64; 65],
     events: &[u8],
     out: &mut [u8],
     last: bool,
@@ -33,9 +34,11 @@ fn walk_with(
 ) -> Walked
     requires { ⌜ 4096 ≤ length (now text) ⌝ }
     ensures { λ r. ⌜ Told
-        (walkOf (tableOf (now (masks .entry)) (now (numbers .entry)) (now (places .entry)) (now (order .entry)))
+        (walkOf (tableOf (now (masks .entry)) (now (numbers .entry)) (now (places .entry)) (now (order .entry))
+        (now (times .entry)))
         (now (events .entry)) (length (now (out .entry))) last)
-        (now (out .entry)) (tableOf (now (masks .exit)) (now (numbers .exit)) (now (places .exit)) (now (order .exit)))
+        (now (out .entry)) (tableOf (now (masks .exit)) (now (numbers .exit)) (now (places .exit)) (now (order .exit))
+        (now (times .exit)))
         r (now (out .exit)) ⌝ }
 {
     let mut at: usize = 0;
@@ -50,7 +53,7 @@ fn walk_with(
         if left(out, to) < 4096 {
             break;
         }
-        let n = turn(masks, numbers, places, order, e, text);
+        let n = turn(masks, numbers, places, order, times, e, text);
         copy(out, to, &text[..n]);
         to += n;
         let size = record_size(e);
@@ -78,16 +81,29 @@ pub fn walk(
     numbers: &mut [i64; 136],
     places: &mut [u8; 128],
     order: &mut [u8; 64],
+    times: &mut [u64; 65],
     events: &[u8],
     out: &mut [u8],
     last: bool,
 ) -> Walked
     ensures { λ r. ⌜ Told
-        (walkOf (tableOf (now (masks .entry)) (now (numbers .entry)) (now (places .entry)) (now (order .entry)))
+        (walkOf (tableOf (now (masks .entry)) (now (numbers .entry)) (now (places .entry)) (now (order .entry))
+        (now (times .entry)))
         (now (events .entry)) (length (now (out .entry))) last)
-        (now (out .entry)) (tableOf (now (masks .exit)) (now (numbers .exit)) (now (places .exit)) (now (order .exit)))
+        (now (out .entry)) (tableOf (now (masks .exit)) (now (numbers .exit)) (now (places .exit)) (now (order .exit))
+        (now (times .exit)))
         r (now (out .exit)) ⌝ }
 {
     let mut space = scratch();
-    walk_with(masks, numbers, places, order, events, out, last, &mut space)
+    walk_with(
+        masks,
+        numbers,
+        places,
+        order,
+        times,
+        events,
+        out,
+        last,
+        &mut space,
+    )
 }

@@ -44,6 +44,7 @@ fn print_walk(
     numbers: &mut [i64; 136],
     places: &mut [u8; 128],
     order: &mut [u8; 64],
+    times: &mut [u64; 65],
     events: &[u8],
     out: &mut [u8],
 ) {
@@ -52,7 +53,16 @@ fn print_walk(
     while 0 < turns {
         turns -= 1;
         let from = least(at, events.len());
-        let r = walk::walk(masks, numbers, places, order, &events[from..], out, true);
+        let r = walk::walk(
+            masks,
+            numbers,
+            places,
+            order,
+            times,
+            &events[from..],
+            out,
+            true,
+        );
         let written = least(r.written, out.len());
         io::write_all(STDOUT_FILENO, &out[0..written]);
         if r.stopped {
@@ -81,9 +91,11 @@ fn run(events: &mut [u8], out: &mut [u8]) -> bool {
     let mut numbers = [0i64; 136];
     let mut places = [0u8; 128];
     let mut order = [0u8; 64];
+    let mut times = [0u64; 65];
     let answer = inflight::fresh(
         &mut masks,
         &mut numbers,
+        &mut times,
         PublisherNumber(wire::i64_at(&head, 0)),
     );
     match answer {
@@ -93,6 +105,7 @@ fn run(events: &mut [u8], out: &mut [u8]) -> bool {
             &mut numbers,
             &mut places,
             &mut order,
+            &mut times,
             &events[0..m],
             out,
         ),

@@ -11,7 +11,7 @@ use lib.ListN.{length, drop, length-append}
 use Rattle.wire.specs.Choice.{pick}
 use Rattle.inflight.specs.Tables.{Table}
 use Rattle.walk_turn.specs.Turn.{linesOf, afterEvent}
-use Rattle.walk.specs.Events.{eventOf, recordSize, waits}
+use Rattle.walk_events.specs.Events.{eventOf, recordSize, waits}
 use Rattle.walk.specs.Walk.{Outcome, ends, after, walkFrom, walkOf}
 use Rattle.walk.proofs.WalkLaws.{lines-short}
 use Rattle.walk_claims.specs.Bounds.{Bounds}

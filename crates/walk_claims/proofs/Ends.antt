@@ -10,7 +10,7 @@ use lib.Dec.{eqb, leb}
 use lib.ListN.{length, drop, replicate, length-append, length-drop}
 use Rattle.wire.specs.Choice.{pick}
 use Rattle.walk_turn.specs.declared.Event.{Event}
-use Rattle.walk.specs.Events.{bodySize, bodyOf, eventOf, waits}
+use Rattle.walk_events.specs.Events.{bodySize, bodyOf, eventOf, waits}
 use Rattle.walk.specs.Walk.{Outcome, walkOf}
 use Rattle.walk_claims.specs.ProgramText.{Fed, fedNext, feed, Piece, feedAll, finish, joined, over}
 use Rattle.walk_claims.proofs.Bounds.{bounds}
@@ -25,7 +25,9 @@ body-goes : (kind : ℕ) (es : List ℕ) → waits (bodyOf kind es) true ≡ fal
 unfolding bodyOf
 body-goes kind es =
     pick-goes (eqb kind 1) _ _ refl
-    (pick-goes (eqb kind 2) _ _ refl (pick-goes (eqb kind 3) _ _ refl (pick-goes (eqb kind 4) _ _ refl refl)))
+    (pick-goes (eqb kind 2) _ _ refl
+    (pick-goes (eqb kind 3) _ _ refl
+    (pick-goes (eqb kind 4) _ _ refl (pick-goes (eqb kind 5) _ _ refl (pick-goes (eqb kind 6) _ _ refl refl)))))
 
 event-goes : (x : ℕ) (xs : List ℕ) → waits (eventOf (x ∷ xs)) true ≡ false
 event-goes x xs =

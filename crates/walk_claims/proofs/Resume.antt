@@ -12,10 +12,10 @@ use Rattle.wire.specs.Choice.{pick}
 use Rattle.inflight.specs.Tables.{Table}
 use Rattle.walk_turn.specs.Turn.{linesOf, afterEvent}
 use Rattle.walk_turn.specs.declared.Event.{Event}
-use Rattle.walk_turn.specs.declared.Event.the-variants.{Ask, Reply, Cancel, Gone, End, Cut, Unknown}
-use Rattle.walk.specs.Events.{eventOf, recordSize, waits}
+use Rattle.walk_turn.specs.declared.Event.the-variants.{Ask, Reply, Cancel, Gone, AskBy, RunOut, End, Cut, Unknown}
+use Rattle.walk_events.specs.Events.{eventOf, recordSize, waits}
 use Rattle.walk.specs.Walk.{Outcome, ends, after, walkFrom}
-use Rattle.walk.proofs.EventLaws.{record-fits}
+use Rattle.walk_events.proofs.EventLaws.{record-fits}
 use Rattle.walk_claims.proofs.FullText.{fullFrom, full-fuel}
 use Rattle.walk_claims.proofs.SameEvent.{same-event}
 
@@ -44,6 +44,8 @@ no-wait (Ask l n p) last h = refl
 no-wait (Reply p n) last h = refl
 no-wait (Cancel l n) last h = refl
 no-wait (Gone peer) last h = refl
+no-wait (AskBy l n p time timeout) last h = refl
+no-wait (RunOut time) last h = refl
 no-wait End last h = h
 no-wait Cut last h = refl
 no-wait Unknown last h = refl

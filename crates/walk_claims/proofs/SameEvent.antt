@@ -9,53 +9,68 @@ use borrow.Author.Tests.{lt-leb, leb-false, ne-eqb}
 use lib.Dec.{eqb, leb}
 use lib.ListN.{length, getD, drop, length-append, length-drop, List·getD-append}
 use lib.Seq.{take-append-le, drop-append-le}
-use Rattle.wire.specs.Bytes.{part}
+use Rattle.wire.specs.Bytes.{le, part}
 use Rattle.wire.specs.Choice.{first}
 use Rattle.inflight.specs.declared.Peer.the-variants as P
-use Rattle.walk_turn.specs.declared.Event.the-variants.{Ask, Reply, Cancel, Gone, Cut, Unknown}
-use Rattle.walk.specs.Events.{bodySize, bodyOf, eventOf, frontNumber, publisherNumber, waits}
+use Rattle.walk_turn.specs.declared.Event.the-variants.{Ask, Reply, Cancel, Gone, AskBy, RunOut, Cut, Unknown}
+use Rattle.walk_events.specs.Events.{bodySize, bodyOf, eventOf, frontNumber, publisherNumber, waits}
 
 module _ (es more : List ℕ) where
   same-byte : (i : ℕ) → i < length es → getD (es ++ more) i 0 ≡ getD es i 0
   same-byte i h = List·getD-append es more 0 i h
 
-  same-part : 10 ≤ length es → part (es ++ more) 2 8 ≡ part es 2 8
-  same-part h = rw (drop-append-le 2 es more (omega arith)) (take-append-le 8 (drop 2 es) more (rw length-drop (omega arith)))
+  same-part : (at k : ℕ) → at + k ≤ length es → part (es ++ more) at k ≡ part es at k
+  same-part at k h =
+      rw (drop-append-le at es more (omega arith)) (take-append-le k (drop at es) more (rw length-drop (omega arith)))
 
   same-front : 10 ≤ length es → frontNumber (es ++ more) ≡ frontNumber es
   unfolding frontNumber
-  same-front h = rw (same-part h)
+  same-front h = rw (same-part 2 8 h)
 
   same-number : 10 ≤ length es → publisherNumber (es ++ more) ≡ publisherNumber es
   unfolding publisherNumber
-  same-number h = rw (same-part h)
+  same-number h = rw (same-part 2 8 h)
 
-  kinds-same : (a b c d e : Bool) → eqb (first ((a, 10) ∷ (b, 9) ∷ (c, 9) ∷ (d, 1) ∷ (e, 1) ∷ []) 0) 0 ≡ false
-      → first ((a, 10) ∷ (b, 9) ∷ (c, 9) ∷ (d, 1) ∷ (e, 1) ∷ []) 0 < length es
+  kinds-same : (a b c d e f g : Bool) → eqb (first ((a, 10) ∷ (b, 9) ∷ (c, 9) ∷ (d, 1) ∷ (e, 1) ∷ (f, 22) ∷ (g, 8) ∷ []) 0) 0 ≡ false
+      → first ((a, 10) ∷ (b, 9) ∷ (c, 9) ∷ (d, 1) ∷ (e, 1) ∷ (f, 22) ∷ (g, 8) ∷ []) 0 < length es
       → first
       ((a, Ask (getD (es ++ more) 1 0) (frontNumber (es ++ more)) (getD (es ++ more) 10 0))
       ∷ (b, Reply (getD (es ++ more) 1 0) (publisherNumber (es ++ more)))
       ∷ (c, Cancel (getD (es ++ more) 1 0) (frontNumber (es ++ more)))
       ∷ (d, Gone (P.Front (getD (es ++ more) 1 0)))
+      ∷ (e, Gone (P.Publisher (getD (es ++ more) 1 0)))
+      ∷ (f, AskBy (getD (es ++ more) 1 0) (frontNumber (es ++ more)) (getD (es ++ more) 10 0) (le (part (es ++ more) 11 8)) (le (part (es ++ more) 19 4)))
       ∷ [])
-      (Gone (P.Publisher (getD (es ++ more) 1 0)))
+      (RunOut (le (part (es ++ more) 1 8)))
       ≡ first
       ((a, Ask (getD es 1 0) (frontNumber es) (getD es 10 0))
       ∷ (b, Reply (getD es 1 0) (publisherNumber es))
       ∷ (c, Cancel (getD es 1 0) (frontNumber es))
       ∷ (d, Gone (P.Front (getD es 1 0)))
+      ∷ (e, Gone (P.Publisher (getD es 1 0)))
+      ∷ (f, AskBy (getD es 1 0) (frontNumber es) (getD es 10 0) (le (part es 11 8)) (le (part es 19 4)))
       ∷ [])
-      (Gone (P.Publisher (getD es 1 0)))
-  kinds-same true b c d e z h = rw (same-byte 1 (omega arith), same-front (omega arith), same-byte 10 (omega arith))
-  kinds-same false true c d e z h = rw (same-byte 1 (omega arith), same-number (omega arith))
-  kinds-same false false true d e z h = rw (same-byte 1 (omega arith), same-front (omega arith))
-  kinds-same false false false true e z h = rw (same-byte 1 (omega arith))
-  kinds-same false false false false true z h = rw (same-byte 1 (omega arith))
-  kinds-same false false false false false z h = absurd (true≢false z)
+      (RunOut (le (part es 1 8)))
+  kinds-same true b c d e f g z h = rw (same-byte 1 (omega arith), same-front (omega arith), same-byte 10 (omega arith))
+  kinds-same false true c d e f g z h = rw (same-byte 1 (omega arith), same-number (omega arith))
+  kinds-same false false true d e f g z h = rw (same-byte 1 (omega arith), same-front (omega arith))
+  kinds-same false false false true e f g z h = rw (same-byte 1 (omega arith))
+  kinds-same false false false false true f g z h = rw (same-byte 1 (omega arith))
+  kinds-same false false false false false true g z h =
+      rw (
+        same-byte 1 (omega arith),
+        same-front (omega arith),
+        same-byte 10 (omega arith),
+        same-part 11 8 (omega arith),
+        same-part 19 4 (omega arith),
+      )
+  kinds-same false false false false false false true z h = rw (same-part 1 8 (omega arith))
+  kinds-same false false false false false false false z h = absurd (true≢false z)
 
   body-same : (kind : ℕ) → eqb (bodySize kind) 0 ≡ false → bodySize kind < length es → bodyOf kind (es ++ more) ≡ bodyOf kind es
   unfolding bodySize bodyOf
-  body-same kind z h = kinds-same (eqb kind 1) (eqb kind 2) (eqb kind 3) (eqb kind 4) (eqb kind 5) z h
+  body-same kind z h =
+      kinds-same (eqb kind 1) (eqb kind 2) (eqb kind 3) (eqb kind 4) (eqb kind 5) (eqb kind 6) (eqb kind 7) z h
 
 -- the event at the front of some bytes, of which there is one at least
 pub event-at : (x : ℕ) (xs : List ℕ) → eventOf (x ∷ xs) ≡ first ((eqb (bodySize x) 0, Unknown) ∷ (leb (length (x ∷ xs)) (bodySize x), Cut) ∷ []) (bodyOf x (x ∷ xs))

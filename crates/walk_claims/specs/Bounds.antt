@@ -6,7 +6,7 @@ use mathlib.Core.Bool.{Bool, false}
 use mathlib.Core.List.{List}
 use lib.ListN.{length}
 use Rattle.inflight.specs.Tables.{Table}
-use Rattle.walk.specs.Events.{eventOf, waits}
+use Rattle.walk_events.specs.Events.{eventOf, waits}
 use Rattle.walk.specs.Walk.{walkOf}
 
 pub record Bounds (t : Table) (es : List ℕ) (room : ℕ) (last : Bool) : Type 0 where

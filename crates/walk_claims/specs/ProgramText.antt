@@ -11,24 +11,26 @@ use lib.IntN.{pos}
 use lib.ListN.{length, drop, replicate}
 use Rattle.wire.specs.Choice.{pick}
 use Rattle.inflight.specs.Model.{empty}
-use Rattle.inflight.specs.Calls.{Call, Heard, ask, reply, cancel, gone, modelRun}
+use Rattle.inflight.specs.Calls.{Call, Heard, ask, oldAsk, reply, cancel, gone, runOut, modelRun}
 use Rattle.inflight.specs.declared.PublisherNumber.{PublisherNumber}
 use Rattle.inflight.specs.Tables.{Table, Sized, freshOf}
 use Rattle.walk_turn.specs.Lines.{callLines, refusedLine}
 use Rattle.walk_turn.specs.Turn.{lentSlice}
 use Rattle.walk_turn.specs.declared.Event.{Event}
-use Rattle.walk_turn.specs.declared.Event.the-variants.{Ask, Reply, Cancel, Gone, End, Cut, Unknown}
-use Rattle.walk.specs.Events.{eventOf, recordSize}
+use Rattle.walk_turn.specs.declared.Event.the-variants.{Ask, Reply, Cancel, Gone, AskBy, RunOut, End, Cut, Unknown}
+use Rattle.walk_events.specs.Events.{eventOf, recordSize}
 use Rattle.walk.specs.Walk.{Outcome, walkOf}
 
 -- ---- the events decoded
 
 -- the call of an event, before the calls behind it; none at the end, at a cut record and at an unknown kind
 abbrev pub callBefore : Event → List Call → List Call
-callBefore (Ask l n p) cs = ask l n p ∷ cs
+callBefore (Ask l n p) cs = oldAsk l n p ∷ cs
 callBefore (Reply p n) cs = reply p n ∷ cs
 callBefore (Cancel l n) cs = cancel l n ∷ cs
 callBefore (Gone peer) cs = gone peer lentSlice ∷ cs
+callBefore (AskBy l n p time timeout) cs = ask l n p time timeout ∷ cs
+callBefore (RunOut time) cs = runOut time lentSlice ∷ cs
 callBefore End cs = []
 callBefore Cut cs = []
 callBefore Unknown cs = []
@@ -44,6 +46,8 @@ faultBefore (Ask l n p) b = b
 faultBefore (Reply p n) b = b
 faultBefore (Cancel l n) b = b
 faultBefore (Gone peer) b = b
+faultBefore (AskBy l n p time timeout) b = b
+faultBefore (RunOut time) b = b
 faultBefore End b = false
 faultBefore Cut b = true
 faultBefore Unknown b = true

@@ -18,21 +18,33 @@ pub fn step(
     numbers: &mut [i64; 136],
     places: &mut [u8; 128],
     order: &mut [u8; 64],
+    times: &mut [u64; 65],
     p: Progress,
     events: &mut [u8],
     out: &mut [u8],
 ) -> Progress
     ensures { λ r. ⌜ Stepped
-        (tableOf (now (masks .entry)) (now (numbers .entry)) (now (places .entry)) (now (order .entry)))
+        (tableOf (now (masks .entry)) (now (numbers .entry)) (now (places .entry)) (now (order .entry))
+        (now (times .entry)))
         p (now (events .entry)) (now (out .entry))
-        (tableOf (now (masks .exit)) (now (numbers .exit)) (now (places .exit)) (now (order .exit)))
+        (tableOf (now (masks .exit)) (now (numbers .exit)) (now (places .exit)) (now (order .exit))
+        (now (times .exit)))
         r (now (events .exit)) (now (out .exit)) ⌝ }
 {
     let from = least(p.have, events.len());
     let end = fill(events, from, p.ended);
     let count = end - from;
     let last = no_more(p.ended, from, events.len(), count);
-    let r = walk::walk(masks, numbers, places, order, &events[0..end], out, last);
+    let r = walk::walk(
+        masks,
+        numbers,
+        places,
+        order,
+        times,
+        &events[0..end],
+        out,
+        last,
+    );
     let size = r.written;
     let written = io::write_all(STDOUT_FILENO, &out[0..size]);
     let used = r.consumed;
@@ -52,7 +64,8 @@ pub fn run() {
     let mut numbers = [0i64; 136];
     let mut places = [0u8; 128];
     let mut order = [0u8; 64];
-    inflight::fresh(&mut masks, &mut numbers, PublisherNumber(1));
+    let mut times = [0u64; 65];
+    inflight::fresh(&mut masks, &mut numbers, &mut times, PublisherNumber(1));
     let mut in_space = io::large_buffer();
     let events: &mut [u8] = &mut in_space;
     let mut out_space = io::large_buffer();
@@ -66,6 +79,7 @@ pub fn run() {
             &mut numbers,
             &mut places,
             &mut order,
+            &mut times,
             p,
             events,
             out,

@@ -10,8 +10,8 @@ use lib.Dec.{ltb}
 use lib.IntN.{ℤ}
 use lib.ListN.{length}
 use lib.Seq.{sets}
-use Rattle.inflight.specs.Model.{noPeer}
-use Rattle.inflight.specs.Tables.{Table, leaving, slotsOf, otherAt, dropOf, goneOf}
+use Rattle.inflight.specs.Model.{noPeer, noTime}
+use Rattle.inflight.specs.Tables.{Table, leaving, slotsOf, otherAt, endsAt, dropOf, goneOf, latestOf, dueOf, runOutOf}
 use Rattle.inflight.specs.declared.Peer.{Peer}
 use Rattle.walk_turn.specs.Lines.{countOf}
 use Rattle.walk_turn.specs.Turn.{Turned, turnOf, linesOf}
@@ -46,6 +46,17 @@ gone-count t peer out = go (noPeer peer) refl
     go : (b : Bool) → noPeer peer ≡ b → 2 * countOf (goneOf t peer out .answer) ≤ length out
     go true e = rw e (omega arith)
     go false e = rw e (drop-count t (slotsOf (t .masks) (t .places) peer) (otherAt peer) out)
+
+pub run-out-count : (t : Table) (time : ℕ) (out : List ℤ) → 2 * countOf (runOutOf t time out .answer) ≤ length out
+unfolding runOutOf
+run-out-count t time out = go (noTime time) refl
+  where
+    due : ℕ
+    due = dueOf (t .masks) (t .times) (latestOf (t .times) time)
+
+    go : (b : Bool) → noTime time ≡ b → 2 * countOf (runOutOf t time out .answer) ≤ length out
+    go true e = rw e (omega arith)
+    go false e = rw e (drop-count t due (endsAt false) out)
 
 -- the turn of an event that is known in other words
 pub event-is : {e f : Event} {r : Turned} {d₁ : List ℕ} (t : Table) (d : List ℕ) → f ≡ e → (r ≡ turnOf t e) × (d₁ ≡ sets d 0 (linesOf t e))

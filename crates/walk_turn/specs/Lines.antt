@@ -6,7 +6,7 @@ use lib.Dec.{ltb}
 use lib.IntN.{ℤ, pos, negsuc}
 use lib.ListN.{getD}
 use Rattle.wire.specs.Choice.{pick}
-use Rattle.inflight.specs.Calls.{Call, Heard, ask, reply, cancel, gone, asked, replied, cancelled, dropped}
+use Rattle.inflight.specs.Calls.{Call, Heard, ask, reply, cancel, gone, runOut, asked, replied, cancelled, dropped}
 use Rattle.inflight.specs.declared.Peer.{Peer}
 use Rattle.inflight.specs.declared.Peer.the-variants as P
 use Rattle.inflight.specs.declared.AskAnswer.{AskAnswer}
@@ -39,7 +39,7 @@ line word a = word ++ (signed a ++ 10 ∷ [])
 unfoldable pub pairLine : List ℕ → ℤ → ℤ → List ℕ
 pairLine word a b = word ++ (signed a ++ 32 ∷ (signed b ++ 10 ∷ []))
 
--- `no`, `ask`, `reply`, `cancel`, `closed`, `lost`, `drop`
+-- `no`, `ask`, `reply`, `cancel`, `closed`, `lost`, `out`, `drop`
 abbrev pub noWord : List ℕ
 noWord = 110 ∷ 111 ∷ 32 ∷ []
 
@@ -57,6 +57,9 @@ closedWord = 99 ∷ 108 ∷ 111 ∷ 115 ∷ 101 ∷ 100 ∷ 32 ∷ []
 
 abbrev pub lostWord : List ℕ
 lostWord = 108 ∷ 111 ∷ 115 ∷ 116 ∷ 32 ∷ []
+
+abbrev pub outWord : List ℕ
+outWord = 111 ∷ 117 ∷ 116 ∷ 32 ∷ []
 
 abbrev pub dropWord : List ℕ
 dropWord = 100 ∷ 114 ∷ 111 ∷ 112 ∷ 32 ∷ []
@@ -89,7 +92,7 @@ unfoldable pub dropLines : ℕ → List ℤ → List ℕ
 dropLines zero ends = []
 dropLines (suc n) ends = dropLines n ends ++ dropLine ends n
 
--- "`lost` and `closed` a count, then that many `drop` lines"
+-- "`lost` and `closed` a count, then that many `drop` lines"; a run-out "prints `out` and the count, then `drop` lines"
 unfoldable pub droppedLines : List ℕ → DropAnswer → List ℤ → List ℕ
 droppedLines word (D.Count n) ends = line word (pos n) ++ dropLines n ends
 droppedLines word (D.Refused k) ends = refusedLine k
@@ -106,10 +109,11 @@ goneWord (P.Publisher p) = lostWord
 
 -- the word of a call that frees many
 abbrev pub dropCallWord : Call → List ℕ
-dropCallWord (ask l n p) = []
+dropCallWord (ask l n p time timeout) = []
 dropCallWord (reply p n) = []
 dropCallWord (cancel l n) = []
 dropCallWord (gone peer out) = goneWord peer
+dropCallWord (runOut time out) = outWord
 
 -- the lines that tell what was heard of a call
 unfoldable pub callLines : Call → Heard → List ℕ

@@ -12,12 +12,14 @@ use inflight::Peer;
 use inflight::PublisherNumber;
 use inflight::ReplyAnswer;
 use inflight_ask::ask;
-use inflight_drop::gone;
+use inflight_gone::gone;
+use inflight_run_out::run_out;
 use inflight_take::cancel;
 use inflight_take::reply;
 use refusal::EVENT_UNKNOWN_OR_CUT;
 ghost use mathlib.Core.Path.{_≡_};
-ghost use Prim.Native.Nat.{_≤_};
+ghost use Prim.Native.Nat.{ℕ, _≤_};
+ghost use mathlib.Core.List.{List};
 ghost use lib.ListN.{length};
 ghost use lib.Seq.{sets};
 ghost use Rattle.inflight.specs.Tables.{tableOf};
@@ -92,23 +94,38 @@ fn ask_turn(
     numbers: &mut [i64; 136],
     places: &mut [u8; 128],
     order: &mut [u8; 64],
+    times: &mut [u64; 65],
     link: u8,
     number: FrontNumber,
     publisher: u8,
+    time: u64,
+    timeout: u32,
     text: &mut [u8],
 ) -> usize
     ensures { λ r. ⌜ (_≡_ {A = Turned}
         (record {
-          table = tableOf (now (masks .exit)) (now (numbers .exit)) (now (places .exit)) (now (order .exit));
+          table = tableOf (now (masks .exit)) (now (numbers .exit)) (now (places .exit)) (now (order .exit))
+              (now (times .exit));
           size = r;
         })
-        (turnOf (tableOf (now (masks .entry)) (now (numbers .entry)) (now (places .entry)) (now (order .entry)))
-        (Event.Ask link number publisher)))
+        (turnOf (tableOf (now (masks .entry)) (now (numbers .entry)) (now (places .entry)) (now (order .entry))
+        (now (times .entry))) (Event.AskBy link number publisher time timeout)))
         × (now (text .exit) ≡ sets (now (text .entry)) 0
-        (linesOf (tableOf (now (masks .entry)) (now (numbers .entry)) (now (places .entry)) (now (order .entry)))
-        (Event.Ask link number publisher))) ⌝ }
+        (linesOf (tableOf (now (masks .entry)) (now (numbers .entry)) (now (places .entry)) (now (order .entry))
+        (now (times .entry))) (Event.AskBy link number publisher time timeout))) ⌝ }
 {
-    let answer = ask(masks, numbers, places, order, link, number, publisher);
+    let answer = ask(
+        masks,
+        numbers,
+        places,
+        order,
+        times,
+        link,
+        number,
+        publisher,
+        time,
+        timeout,
+    );
     put_ask(text, answer)
 }
 
@@ -121,16 +138,16 @@ fn reply_turn(
     number: PublisherNumber,
     text: &mut [u8],
 ) -> usize
-    ensures { λ r. ⌜ (_≡_ {A = Turned}
+    ensures { λ r. ⌜ ((ts : List ℕ) → (_≡_ {A = Turned}
         (record {
-          table = tableOf (now (masks .exit)) (now (numbers .entry)) (now (places .entry)) (now (order .exit));
+          table = tableOf (now (masks .exit)) (now (numbers .entry)) (now (places .entry)) (now (order .exit)) ts;
           size = r;
         })
-        (turnOf (tableOf (now (masks .entry)) (now (numbers .entry)) (now (places .entry)) (now (order .entry)))
+        (turnOf (tableOf (now (masks .entry)) (now (numbers .entry)) (now (places .entry)) (now (order .entry)) ts)
         (Event.Reply publisher number)))
         × (now (text .exit) ≡ sets (now (text .entry)) 0
-        (linesOf (tableOf (now (masks .entry)) (now (numbers .entry)) (now (places .entry)) (now (order .entry)))
-        (Event.Reply publisher number))) ⌝ }
+        (linesOf (tableOf (now (masks .entry)) (now (numbers .entry)) (now (places .entry)) (now (order .entry)) ts)
+        (Event.Reply publisher number)))) ⌝ }
 {
     let answer = reply(masks, numbers, places, order, publisher, number);
     put_reply(text, answer)
@@ -145,16 +162,16 @@ fn cancel_turn(
     number: FrontNumber,
     text: &mut [u8],
 ) -> usize
-    ensures { λ r. ⌜ (_≡_ {A = Turned}
+    ensures { λ r. ⌜ ((ts : List ℕ) → (_≡_ {A = Turned}
         (record {
-          table = tableOf (now (masks .exit)) (now (numbers .entry)) (now (places .entry)) (now (order .exit));
+          table = tableOf (now (masks .exit)) (now (numbers .entry)) (now (places .entry)) (now (order .exit)) ts;
           size = r;
         })
-        (turnOf (tableOf (now (masks .entry)) (now (numbers .entry)) (now (places .entry)) (now (order .entry)))
+        (turnOf (tableOf (now (masks .entry)) (now (numbers .entry)) (now (places .entry)) (now (order .entry)) ts)
         (Event.Cancel link number)))
         × (now (text .exit) ≡ sets (now (text .entry)) 0
-        (linesOf (tableOf (now (masks .entry)) (now (numbers .entry)) (now (places .entry)) (now (order .entry)))
-        (Event.Cancel link number))) ⌝ }
+        (linesOf (tableOf (now (masks .entry)) (now (numbers .entry)) (now (places .entry)) (now (order .entry)) ts)
+        (Event.Cancel link number)))) ⌝ }
 {
     let answer = cancel(masks, numbers, places, order, link, number);
     put_cancel(text, answer)
@@ -168,20 +185,46 @@ fn gone_turn(
     peer: Peer,
     text: &mut [u8],
 ) -> usize
-    ensures { λ r. ⌜ (_≡_ {A = Turned}
+    ensures { λ r. ⌜ ((ts : List ℕ) → (_≡_ {A = Turned}
         (record {
-          table = tableOf (now (masks .exit)) (now (numbers .entry)) (now (places .entry)) (now (order .exit));
+          table = tableOf (now (masks .exit)) (now (numbers .entry)) (now (places .entry)) (now (order .exit)) ts;
           size = r;
         })
-        (turnOf (tableOf (now (masks .entry)) (now (numbers .entry)) (now (places .entry)) (now (order .entry)))
+        (turnOf (tableOf (now (masks .entry)) (now (numbers .entry)) (now (places .entry)) (now (order .entry)) ts)
         (Event.Gone peer)))
         × (now (text .exit) ≡ sets (now (text .entry)) 0
-        (linesOf (tableOf (now (masks .entry)) (now (numbers .entry)) (now (places .entry)) (now (order .entry)))
-        (Event.Gone peer))) ⌝ }
+        (linesOf (tableOf (now (masks .entry)) (now (numbers .entry)) (now (places .entry)) (now (order .entry)) ts)
+        (Event.Gone peer)))) ⌝ }
 {
     let mut ends = [0i64; 128];
     let answer = gone(masks, numbers, places, order, peer, &mut ends);
     put_gone(text, peer, answer, &ends)
+}
+
+fn run_out_turn(
+    masks: &mut [u64; 9],
+    numbers: &[i64; 136],
+    places: &[u8; 128],
+    order: &mut [u8; 64],
+    times: &mut [u64; 65],
+    time: u64,
+    text: &mut [u8],
+) -> usize
+    ensures { λ r. ⌜ (_≡_ {A = Turned}
+        (record {
+          table = tableOf (now (masks .exit)) (now (numbers .entry)) (now (places .entry)) (now (order .exit))
+              (now (times .exit));
+          size = r;
+        })
+        (turnOf (tableOf (now (masks .entry)) (now (numbers .entry)) (now (places .entry)) (now (order .entry))
+        (now (times .entry))) (Event.RunOut time)))
+        × (now (text .exit) ≡ sets (now (text .entry)) 0
+        (linesOf (tableOf (now (masks .entry)) (now (numbers .entry)) (now (places .entry)) (now (order .entry))
+        (now (times .entry))) (Event.RunOut time))) ⌝ }
+{
+    let mut ends = [0i64; 128];
+    let answer = run_out(masks, numbers, places, order, times, time, &mut ends);
+    put_dropped(text, b"out ", answer, &ends)
 }
 
 // The table after an event, and its lines at the front of text: their size is handed back.
@@ -190,25 +233,41 @@ pub fn turn(
     numbers: &mut [i64; 136],
     places: &mut [u8; 128],
     order: &mut [u8; 64],
+    times: &mut [u64; 65],
     e: Event,
     text: &mut [u8],
 ) -> usize
     ensures { λ r. ⌜ (_≡_ {A = Turned}
         (record {
-          table = tableOf (now (masks .exit)) (now (numbers .exit)) (now (places .exit)) (now (order .exit));
+          table = tableOf (now (masks .exit)) (now (numbers .exit)) (now (places .exit)) (now (order .exit))
+              (now (times .exit));
           size = r;
         })
-        (turnOf (tableOf (now (masks .entry)) (now (numbers .entry)) (now (places .entry)) (now (order .entry)))
-        e))
+        (turnOf (tableOf (now (masks .entry)) (now (numbers .entry)) (now (places .entry)) (now (order .entry))
+        (now (times .entry))) e))
         × (now (text .exit) ≡ sets (now (text .entry)) 0
-        (linesOf (tableOf (now (masks .entry)) (now (numbers .entry)) (now (places .entry)) (now (order .entry)))
-        e)) ⌝ }
+        (linesOf (tableOf (now (masks .entry)) (now (numbers .entry)) (now (places .entry)) (now (order .entry))
+        (now (times .entry))) e)) ⌝ }
 {
     match e {
-        Event::Ask(l, n, p) => ask_turn(masks, numbers, places, order, l, n, p, text),
+        Event::Ask(l, n, p) => ask_turn(masks, numbers, places, order, times, l, n, p, 0, 0, text),
         Event::Reply(p, n) => reply_turn(masks, numbers, places, order, p, n, text),
         Event::Cancel(l, n) => cancel_turn(masks, numbers, places, order, l, n, text),
         Event::Gone(peer) => gone_turn(masks, numbers, places, order, peer, text),
+        Event::AskBy(l, n, p, t, d) => ask_turn(
+            masks,
+            numbers,
+            places,
+            order,
+            times,
+            l,
+            n,
+            p,
+            t,
+            d,
+            text,
+        ),
+        Event::RunOut(t) => run_out_turn(masks, numbers, places, order, times, t, text),
         Event::End => put_refused(text, EVENT_UNKNOWN_OR_CUT),
         Event::Cut => put_refused(text, EVENT_UNKNOWN_OR_CUT),
         Event::Unknown => put_refused(text, EVENT_UNKNOWN_OR_CUT),

@@ -10,6 +10,7 @@ use crate::settings::{self, LinkSettings};
 use link::LinkWords;
 use std::collections::HashSet;
 use std::net::SocketAddr;
+use std::num::NonZeroU32;
 use std::time::Duration;
 
 const USAGE: &str = "usage: relay [OPTION]... LISTEN PUBLISHER (eight of them)
@@ -24,6 +25,7 @@ OPTION
   --retry-ms N: the pause before a publisher is tried again, 1000 if not said
   --ping-ms N: the interval of the keep-alive, and what a dropped peer has to read the rest, 10000
   --opening-ms N: from a connection's start until its link must be open, 5000
+  --request-ms N: from a request's acceptance until it ends with an error, 30000; 0 for no end
   --padded-fronts: the links to all front ends are padded
   --fronts-cipher clear|only|either, --fronts-key FILE: the same for the links to all front ends
   --card stand-in or --card x25519: where the Diffie-Hellman points come from; needed if any link may
@@ -36,6 +38,7 @@ struct Line {
     retry: u64,
     keep_alive: u64,
     opening: u64,
+    request: Option<NonZeroU32>,
     fronts: LinkWords,
     card: Option<CardKind>,
 }
@@ -57,6 +60,7 @@ pub fn read(words: impl Iterator<Item = String>) -> Result<(SocketAddr, Options)
         retry: Duration::from_millis(line.retry),
         keep_alive: Duration::from_millis(line.keep_alive),
         opening: Duration::from_millis(line.opening),
+        request: line.request,
         card: line.card,
     };
     has_card(&options)?;
@@ -69,6 +73,7 @@ fn line(mut words: impl Iterator<Item = String>) -> Result<Line, String> {
         retry: 1000,
         keep_alive: 10_000,
         opening: 5000,
+        request: NonZeroU32::new(30_000),
         fronts: LinkWords::new(settings::FRONT),
         card: None,
     };
@@ -82,6 +87,7 @@ fn line(mut words: impl Iterator<Item = String>) -> Result<Line, String> {
             "--retry-ms" => line.retry = milliseconds(&value()?)?,
             "--ping-ms" => line.keep_alive = milliseconds(&value()?)?,
             "--opening-ms" => line.opening = milliseconds(&value()?)?,
+            "--request-ms" => line.request = timeout(&value()?)?,
             "--padded-fronts" => line.fronts.set("padded", "yes").map_err(usage)?,
             "--fronts-cipher" => line.fronts.set("cipher", &value()?).map_err(usage)?,
             "--fronts-key" => line.fronts.set("key", &value()?).map_err(usage)?,
@@ -112,6 +118,12 @@ fn has_card(options: &Options) -> Result<(), String> {
 fn milliseconds(word: &str) -> Result<u64, String> {
     let number = word.parse().ok();
     number.filter(|&ms| ms > 0).ok_or_else(|| USAGE.to_string())
+}
+
+/// 0 is none, as in the table's calls.
+fn timeout(word: &str) -> Result<Option<NonZeroU32>, String> {
+    let number = word.parse().map_err(|_| USAGE)?;
+    Ok(NonZeroU32::new(number))
 }
 
 /// What a word says, or the word and what is wrong with it.

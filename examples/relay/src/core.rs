@@ -2,17 +2,19 @@
 //! and what is to be done comes back as actions. Here: which packet is for whom.
 //! `opening` and `keep_alive` have what is a connection's own, `forward` the
 //! way of requests and answers, `unreadable` what becomes of those that cannot
-//! be read, `output` what is handed over at the end of an event.
+//! be read, `run_out` of those that are not answered in time, `output` what is
+//! handed over at the end of an event.
 
 use crate::connection::{side_towards, Connection};
 use crate::counts::Counts;
-use crate::event::{Action, Event, Peer};
+use crate::event::{Action, Event, Now, Peer};
 use crate::settings::LinkSettings;
 use relay::packet_type::{HANDSHAKE, NONCE, PING, PONG};
 use relay::{
     read_message, Fault, Message, Moment, PublisherNumber, Refusal, Table, ToSend, LINKS,
     PUBLISHERS,
 };
+use std::num::NonZeroU32;
 
 pub struct Core {
     pub(crate) table: Table,
@@ -25,15 +27,22 @@ pub struct Core {
     /// Whom the event has sent packets that are not handed over yet.
     pub(crate) unwritten: Vec<Peer>,
     pub(crate) counts: Counts,
-    moment: Moment,
+    pub(crate) now: Now,
+    /// What a request has from its acceptance on, in milliseconds, if it ever runs
+    /// out.
+    pub(crate) timeout: Option<NonZeroU32>,
     /// The ID of our next Ping.
     pub(crate) next_ping: u64,
 }
 
 impl Core {
     /// With the settings of the links to all front ends, and of those to the
-    /// publishers.
-    pub fn new(front: LinkSettings, publishers: [LinkSettings; PUBLISHERS as usize]) -> Core {
+    /// publishers, and the timeout of each request, in milliseconds.
+    pub fn new(
+        front: LinkSettings,
+        publishers: [LinkSettings; PUBLISHERS as usize],
+        timeout: Option<NonZeroU32>,
+    ) -> Core {
         Core {
             // Every number from 1 on is accepted here.
             table: Table::new(PublisherNumber(1)).expect("1 is a first number"),
@@ -44,7 +53,8 @@ impl Core {
             actions: Vec::new(),
             unwritten: Vec::new(),
             counts: Counts::default(),
-            moment: Moment { time: 0 },
+            now: Now::default(),
+            timeout,
             next_ping: 1,
         }
     }
@@ -59,9 +69,8 @@ impl Core {
         &self.counts
     }
 
-    /// Handles one event; `time` is the clock, in seconds.
-    pub fn handle(&mut self, event: Event, time: u32) -> Vec<Action> {
-        self.moment = Moment { time };
+    pub fn handle(&mut self, event: Event, now: Now) -> Vec<Action> {
+        self.now = now;
         match event {
             Event::Connected(peer, opening) => self.connected(peer, opening),
             Event::Bytes(peer, bytes) => self.bytes(peer, bytes),
@@ -70,9 +79,16 @@ impl Core {
             Event::Slow(peer) => self.slow(peer),
             Event::TurnedAway => self.counts.turned_away += 1,
             Event::Tick => self.tick(),
+            Event::RunOut => self.run_out(),
         }
         self.hand_over_all();
         std::mem::take(&mut self.actions)
+    }
+
+    fn moment(&self) -> Moment {
+        Moment {
+            time: self.now.seconds,
+        }
     }
 
     pub(crate) fn slot(&mut self, peer: Peer) -> Option<&mut Option<Connection>> {
@@ -101,7 +117,7 @@ impl Core {
         };
         connection.session.feed(bytes);
         loop {
-            let moment = self.moment;
+            let moment = self.moment();
             // Gone if a packet led to its end.
             let Some(connection) = self.connection(peer) else {
                 return;
@@ -146,7 +162,7 @@ impl Core {
 
     /// Sends a packet, or says why it cannot be sent.
     pub(crate) fn send(&mut self, peer: Peer, what: ToSend) -> Result<(), Fault> {
-        let moment = self.moment;
+        let moment = self.moment();
         let connection = self.connection(peer).ok_or(Refusal::LINK_CLOSED)?;
         connection.session.send(what, moment)?;
         self.hand_over_later(peer);

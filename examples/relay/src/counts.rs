@@ -7,7 +7,7 @@ use std::fmt;
 #[derive(Clone, Default)]
 pub struct Counts {
     /// Requests that the table accepted. Each of them ends in exactly one of
-    /// the six ways below, or is still in flight.
+    /// the seven ways below, or is still in flight.
     pub asked: u64,
     pub answered: u64,
     pub cancelled: u64,
@@ -19,6 +19,8 @@ pub struct Counts {
     pub unsent: u64,
     /// Its answer could not be read.
     pub unreadable: u64,
+    /// Its deadline came.
+    pub ran_out: u64,
     /// Answers to nothing in flight, which go nowhere (34).
     pub late: u64,
     /// Cancels of nothing in flight (34).
@@ -27,8 +29,8 @@ pub struct Counts {
     pub unread: u64,
     /// Requests under a number in flight on their link, which end it (31).
     pub repeated: u64,
-    /// Error results of our own, by code: refused asks, unsent, lost, and where
-    /// a request or its answer could not be read.
+    /// Error results of our own, by code: refused asks, unsent, lost, ran out, and
+    /// where a request or its answer could not be read.
     pub refused: BTreeMap<u8, u64>,
     pub pings: u64,
     pub pongs: u64,
@@ -57,6 +59,7 @@ impl Counts {
             self.lost,
             self.unsent,
             self.unreadable,
+            self.ran_out,
         ];
         self.asked - ended.iter().sum::<u64>()
     }
@@ -91,6 +94,7 @@ impl fmt::Display for Counts {
             ("lost", self.lost),
             ("unsent", self.unsent),
             ("unreadable", self.unreadable),
+            ("ran_out", self.ran_out),
             ("late", self.late),
             ("idle_cancels", self.idle_cancels),
             ("unread", self.unread),

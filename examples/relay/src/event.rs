@@ -4,6 +4,15 @@ pub use relay::Peer;
 use relay::{Card, NetPid};
 use std::fmt;
 
+/// The clocks when an event is handled.
+#[derive(Clone, Copy, Debug, Default)]
+pub struct Now {
+    /// Seconds since 1970, for the links.
+    pub seconds: u32,
+    /// Milliseconds of a clock that does not go back, for the deadlines of requests.
+    pub ms: u64,
+}
+
 /// What a new connection needs for its opening.
 pub struct Opening {
     /// For our Nonce.
@@ -29,6 +38,8 @@ pub enum Event<'a> {
     TurnedAway,
     /// One interval of the keep-alive is over.
     Tick,
+    /// It is time to look for requests whose deadline has come.
+    RunOut,
 }
 
 #[derive(Debug, PartialEq, Eq)]

@@ -21,7 +21,10 @@ impl Core {
         }
         let publisher = route(invoke.actor);
         let front = FrontNumber(invoke.number);
-        match self.table.ask(link, front, publisher) {
+        let asked = self
+            .table
+            .ask_by(link, front, publisher, self.now.ms, self.timeout);
+        match asked {
             Ok(number) => {
                 self.counts.asked += 1;
                 self.pass_on(link, publisher, number, invoke);
@@ -163,10 +166,13 @@ impl Core {
 
     /// An error of our own; its code is the refusal's number.
     pub(crate) fn refuse(&mut self, link: u8, front: FrontNumber, refusal: Refusal) {
-        *self.counts.refused.entry(refusal.number()).or_default() += 1;
-        let text = refusal.to_string();
+        self.error(link, front, refusal.number(), &refusal.to_string());
+    }
+
+    pub(crate) fn error(&mut self, link: u8, front: FrontNumber, code: u8, text: &str) {
+        *self.counts.refused.entry(code).or_default() += 1;
         let error = Answer::Error {
-            code: i32::from(refusal.number()),
+            code: code.into(),
             text: text.as_bytes(),
         };
         if self.result(link, front, error).is_err() {

@@ -18,5 +18,6 @@ mod key_file;
 pub mod network;
 mod opening;
 mod output;
+mod run_out;
 pub mod settings;
 mod unreadable;

@@ -1,8 +1,9 @@
 //! The program: `relay [OPTION]... LISTEN PUBLISHER ...`, with exactly eight
-//! publishers. The options `--retry-ms N`, `--ping-ms N` and `--opening-ms N` are
-//! the times between two attempts to reach a publisher, of the keep-alive, and
-//! from a connection's start until its link must be open; with `--padded-fronts`
-//! the links to all front ends are padded. A publisher is its address, or for
+//! publishers. The options `--retry-ms N`, `--ping-ms N`, `--opening-ms N` and
+//! `--request-ms N` are the times between two attempts to reach a publisher, of
+//! the keep-alive, from a connection's start until its link must be open, and
+//! from a request's acceptance until it ends with an error (0: never); with
+//! `--padded-fronts` the links to all front ends are padded. A publisher is its address, or for
 //! instance `10.0.0.7:2001,lowest=2,cipher=only,key=/etc/relay/key`: the lowest
 //! version that its Nonce may have, whether the link to it is padded, and whether
 //! it goes through the cipher, with the file of its key. `--fronts-cipher` and

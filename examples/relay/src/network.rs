@@ -3,6 +3,7 @@
 //! one order. The core's thread never waits for a peer: what it sends is queued,
 //! and one more thread prints its warnings.
 
+mod beat;
 mod connect;
 mod connection;
 mod printer;

@@ -13,7 +13,7 @@ enum Answer {
 pub struct Counts(BTreeMap<(&'static str, Answer), u64>);
 
 /// The refusals that each call has; those of a link are in their order.
-const REFUSALS: [(&str, &[u8]); 17] = [
+const REFUSALS: [(&str, &[u8]); 19] = [
     ("read", &[19, 11, 12, 13, 14, 17, 18]),
     ("field of 0", &[19, 11, 12, 13, 14]),
     ("set-up", &[36, 30]),
@@ -30,10 +30,12 @@ const REFUSALS: [(&str, &[u8]); 17] = [
     ("flush", &[20, 16]),
     ("fresh", &[30]),
     ("ask", &[30, 12, 31, 32, 33]),
+    ("ask by", &[30, 12, 31, 32, 33]),
     ("reply", &[30, 12, 34]),
     ("cancel", &[30, 12, 34]),
     ("gone front end", &[30, 16]),
     ("gone publisher", &[30, 16]),
+    ("run out", &[30, 16]),
 ];
 
 impl Counts {

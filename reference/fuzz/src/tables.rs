@@ -1,85 +1,39 @@
 //! Random lists of calls on a table, with few links and numbers, so that they
-//! meet, or with 48 to 64 requests in flight; gone peers of either side, with
-//! slices that are too short now and then. After each call the table's members
-//! are held against one another too.
+//! meet, or with 48 to 64 requests in flight; gone peers of either side, and
+//! deadlines by clocks that may go back, with slices that are too short now and
+//! then. After each call the table's members are held against one another too.
+
+mod profiles;
+mod times;
 
 use crate::compare::{same, Compared};
 use crate::counts::Counts;
 use crate::draw::{array, coin, one_in, up_to};
+use profiles::{Profile, PROFILES};
+use reference::clock::{Clock, LARGEST_TIME};
 use reference::generator::Generator;
 use reference::refusal::Refusal;
 use reference::table::{End, Request, Side, Table};
 use relay::{raw, FrontNumber, Peer, PublisherNumber};
 use std::collections::HashMap;
 
-/// How wide a list draws, and what it does how often.
-struct Profile {
-    links: u64,
-    numbers: u64,
-    publishers: u64,
-    /// Shares of a hundred calls; the rest are asks.
-    replies: u64,
-    cancels: u64,
-    drops: u64,
-    /// With fewer in flight, every call is an ask.
-    fewest: usize,
-}
-
-/// Narrow and busy, wide and full, a few publishers that fill up, and a crowd
-/// of 48 and more.
-const PROFILES: [Profile; 5] = [
-    Profile {
-        links: 3,
-        numbers: 6,
-        publishers: 3,
-        replies: 20,
-        cancels: 15,
-        drops: 8,
-        fewest: 0,
-    },
-    Profile {
-        links: 32,
-        numbers: 40,
-        publishers: 8,
-        replies: 15,
-        cancels: 8,
-        drops: 1,
-        fewest: 0,
-    },
-    Profile {
-        links: 8,
-        numbers: 30,
-        publishers: 4,
-        replies: 8,
-        cancels: 5,
-        drops: 1,
-        fewest: 0,
-    },
-    Profile {
-        links: 4,
-        numbers: 100,
-        publishers: 5,
-        replies: 25,
-        cancels: 10,
-        drops: 3,
-        fewest: 0,
-    },
-    Profile {
-        links: 32,
-        numbers: 1000,
-        publishers: 8,
-        replies: 28,
-        cancels: 15,
-        drops: 2,
-        fewest: 48,
-    },
-];
-
 struct Both {
     ours: relay::Table,
     second: Table,
     /// The front ends of the requests in flight, oldest accepted first.
     fronts: Vec<End>,
+    clock: Clock,
+}
+
+/// What is called.
+#[derive(Clone, Copy)]
+enum Kind {
+    Ask,
+    AskBy,
+    Reply,
+    Cancel,
+    Gone,
+    RunOut,
 }
 
 /// The words of a call.
@@ -105,18 +59,18 @@ pub fn case(g: &mut Generator, counts: &mut Counts) -> Compared {
     let (Ok(ours), Ok(second)) = (ours, second) else {
         return Ok(());
     };
-    let fronts = Vec::new();
     let mut both = Both {
         ours,
         second,
-        fronts,
+        fronts: Vec::new(),
+        clock: times::clock(g),
     };
     let profile = &PROFILES[g.below(PROFILES.len() as u64) as usize];
     for _ in 0..g.pick(&[10, 100, 200, 300]) {
         both.call(g, profile, counts)?;
         counts.add("in flight", Ok(crowd(both.second.count())));
     }
-    both.end(counts)
+    both.end(g, counts)
 }
 
 /// A new table, or one that starts anew where garbage stood; a refusal leaves
@@ -132,6 +86,7 @@ fn fresh(g: &mut Generator, first: i64) -> Result<relay::Table, u8> {
         numbers: std::array::from_fn(|_| g.draw() as i64),
         places: array(g),
         order: array(g),
+        times: std::array::from_fn(|_| g.draw()),
     };
     *table.raw() = garbage;
     match raw::relay_fresh(table.raw(), first) {
@@ -153,27 +108,44 @@ impl Both {
         } else {
             front
         };
-        let roll = g.below(100);
-        let Profile {
-            replies,
-            cancels,
-            drops,
-            fewest,
-            ..
-        } = *profile;
-        if self.second.count() < fewest {
-            self.ask(link, front, publisher, counts)
-        } else if roll < replies {
-            let (publisher, number) = self.reply_to(g, publisher);
-            self.reply(publisher, number, counts)
-        } else if roll < replies + cancels {
-            let (link, front) = self.cancel_of(g, (link, front));
-            self.cancel(link, front, counts)
-        } else if roll < replies + cancels + drops {
-            self.any_gone(g, (link, publisher), counts)
-        } else {
-            self.ask(link, front, publisher, counts)
+        match self.kind(g, profile) {
+            Kind::Reply => {
+                let (publisher, number) = self.reply_to(g, publisher);
+                self.reply(publisher, number, counts)
+            }
+            Kind::Cancel => {
+                let (link, front) = self.cancel_of(g, (link, front));
+                self.cancel(link, front, counts)
+            }
+            Kind::Gone => self.any_gone(g, (link, publisher), counts),
+            Kind::RunOut => self.any_run_out(g, counts),
+            Kind::Ask => self.ask(link, front, publisher, counts),
+            Kind::AskBy => self.any_ask_by(g, (link, front), publisher, counts),
         }
+    }
+
+    fn kind(&self, g: &mut Generator, profile: &Profile) -> Kind {
+        let asked = if g.below(100) < profile.timed {
+            Kind::AskBy
+        } else {
+            Kind::Ask
+        };
+        if self.second.count() < profile.fewest {
+            return asked;
+        }
+        let mut roll = g.below(100);
+        for (share, kind) in [
+            (profile.replies, Kind::Reply),
+            (profile.cancels, Kind::Cancel),
+            (profile.drops, Kind::Gone),
+            (profile.run_outs, Kind::RunOut),
+        ] {
+            if roll < share {
+                return kind;
+            }
+            roll -= share;
+        }
+        asked
     }
 
     /// Mostly what is in flight.
@@ -268,27 +240,13 @@ impl Both {
         Ok(())
     }
 
-    /// A room for the ends of a peer's requests: enough, or not.
+    /// A room for the ends of a peer's requests.
     fn room(&self, g: &mut Generator, side: Side, number: u8, counts: &mut Counts) -> usize {
         let is_its = |request: &&Request| match side {
             Side::Front => request.front.0 == number,
             Side::Publisher => request.publisher.0 == number,
         };
-        let needed = 2 * self.second.in_flight().filter(is_its).count();
-        let less = up_to(g, needed);
-        let odd = 2 * up_to(g, 64) + 1;
-        let (kind, room) = g.pick(&[
-            ("just enough", needed),
-            ("one less", needed.saturating_sub(1)),
-            ("one more", needed + 1),
-            ("less", less),
-            ("odd", odd),
-            ("0", 0),
-            ("128", 128),
-            ("130", 130),
-        ]);
-        counts.add("room for ends", Ok(kind));
-        room
+        room_for(g, self.second.in_flight().filter(is_its).count(), counts)
     }
 
     fn gone(&mut self, side: Side, number_: u8, room: usize, counts: &mut Counts) -> Compared {
@@ -327,19 +285,26 @@ impl Both {
     fn same_requests(&mut self, call: impl Call) -> Compared {
         let table = self.ours.raw();
         let end = |i: usize| (table.places[i], table.numbers[i]);
+        let deadline = |i: usize| Some(table.times[i]).filter(|&time| time != 0);
         let ours = oldest_first(table)
             .into_iter()
-            .map(|i| (end(i), end(64 + i)))
+            .map(|i| (end(i), (end(64 + i), deadline(i))))
             .collect::<Vec<_>>();
-        let ends = self.second.in_flight().map(|r| (r.front, r.publisher));
-        let ends: HashMap<End, End> = ends.collect();
-        self.fronts.retain(|front| ends.contains_key(front));
-        let second = self.fronts.iter().map(|front| (*front, ends[front]));
+        let latest = self.second.latest_time();
+        same("the latest time seen", call, table.times[64], latest)?;
+        let of = |r: &Request| (r.front, (r.publisher, r.deadline()));
+        let others: HashMap<End, (End, Option<u64>)> = self.second.in_flight().map(of).collect();
+        self.fronts.retain(|front| others.contains_key(front));
+        let second = self.fronts.iter().map(|front| (*front, others[front]));
         same("the requests in flight", call, ours, second.collect())
     }
 
-    /// All publishers are lost, and each is asked once more.
-    fn end(&mut self, counts: &mut Counts) -> Compared {
+    /// Now and then all deadlines come. All publishers are lost, and each is asked
+    /// once more.
+    fn end(&mut self, g: &mut Generator, counts: &mut Counts) -> Compared {
+        if coin(g) {
+            self.run_out(LARGEST_TIME, 128, counts)?;
+        }
         for publisher in 0..8 {
             self.gone(Side::Publisher, publisher, 32, counts)?;
             self.ask(publisher, 1, publisher, counts)?;
@@ -381,6 +346,25 @@ fn holds_together(table: &raw::Table, count: usize, call: impl Call) -> Compared
         same("slots of a publisher", call, mask, slots)?;
     }
     Ok(())
+}
+
+/// A room for the ends of so many requests: enough, or not.
+fn room_for(g: &mut Generator, count: usize, counts: &mut Counts) -> usize {
+    let needed = 2 * count;
+    let less = up_to(g, needed);
+    let odd = 2 * up_to(g, 64) + 1;
+    let (kind, room) = g.pick(&[
+        ("just enough", needed),
+        ("one less", needed.saturating_sub(1)),
+        ("one more", needed + 1),
+        ("less", less),
+        ("odd", odd),
+        ("0", 0),
+        ("128", 128),
+        ("130", 130),
+    ]);
+    counts.add("room for ends", Ok(kind));
+    room
 }
 
 /// How full a table is.

@@ -9,6 +9,7 @@ use super::walk_gone;
 use super::walk_scripts as scripts;
 use super::walk_scripts::Script;
 use super::walk_slots;
+use super::walk_time;
 use crate::event::Event;
 use crate::numbers::{read_i64, read_u32};
 use crate::table::{Side, Table, ROOM};
@@ -49,12 +50,15 @@ pub fn input() -> Vec<u8> {
     walk_slots::push(&mut runs);
     runs.push(-5, scripts::example());
     walk_gone::push(&mut runs);
+    runs.push(-5, scripts::example());
+    walk_time::push(&mut runs);
     // The last run is one that is skipped, so that its end is the input's.
     runs.push(-5, scripts::example());
     runs.bytes
 }
 
-/// Every unknown kind, and every kind cut at every length.
+/// Every unknown kind, and every kind cut at every length. Kinds 6 and 7 were
+/// unknown when these were stored; their runs stay, and now go on.
 fn bad_events(runs: &mut Runs) {
     for kind in (0..=0).chain(6..=255) {
         runs.push(1, scripts::unknown_kind(kind));
@@ -148,9 +152,10 @@ mod tests {
         lines: usize,
     }
 
-    /// Before the table had slots and masks, and before one call stood for
-    /// both sides of a gone peer (document 02, A12 and A4).
-    const OLD: [Stored; 2] = [
+    /// Before the table had slots and masks, before one call stood for both
+    /// sides of a gone peer, and before requests ran out (document 02, A12, A4
+    /// and A2).
+    const OLD: [Stored; 3] = [
         Stored {
             input: (218_362, 0x466A_30A0),
             output: (274_858, 0x5417_D2F6),
@@ -160,6 +165,11 @@ mod tests {
             input: (338_511, 0xC525_CFD8),
             output: (454_852, 0x6F30_63F6),
             lines: 43_487,
+        },
+        Stored {
+            input: (377_620, 0x7B54_61C7),
+            output: (523_621, 0x2A6D_856C),
+            lines: 50_950,
         },
     ];
 
@@ -179,8 +189,12 @@ mod tests {
         for (refusal, least) in [(12, 50), (30, 100), (31, 50), (32, 50), (33, 50), (34, 50)] {
             assert!(count(&format!("no {refusal}")) >= least, "no {refusal}");
         }
-        // 251 unknown kinds and 30 cut records, and no other.
-        assert_eq!(count("no 35"), 281);
+        // 249 unknown kinds, one more where kind 7 was one, 30 cut records and
+        // the last ones of the runs with times, and no other.
+        let mut with_times = Runs::default();
+        walk_time::push(&mut with_times);
+        let cut = runs_in(&with_times.bytes);
+        assert_eq!(count("no 35"), 249 + 1 + 30 + cut);
         assert_eq!(count("no 16"), 0);
         assert!(count("closed 64") > 0 && count("lost 16") > 0);
         assert!(count("closed 0") > 0 && count("lost 0") > 0);
@@ -191,9 +205,39 @@ mod tests {
         text.iter().filter(|&&byte| byte == b'\n').count()
     }
 
+    fn runs_in(input: &[u8]) -> usize {
+        let mut count = 0;
+        output_by(input, |_, _, _| count += 1);
+        count
+    }
+
+    /// As the output was while kinds 6 and 7 were unknown: two runs, each
+    /// stored for one of them, stopped there.
+    fn output_before_times(input: &[u8]) -> Vec<u8> {
+        let unknown = [6, 7].map(|kind| scripts::unknown_kind(kind).bytes);
+        output_by(input, |first, events, lines| {
+            if unknown.iter().any(|bytes| bytes == events) {
+                lines.extend(b"ask 1\nno 35\n");
+            } else {
+                walk_run(first, events, lines);
+            }
+        })
+    }
+
+    /// The bytes that stood behind an unknown kind are now its body: those
+    /// behind 6 are just one, behind 7 comes kind 0.
+    #[test]
+    fn what_kinds_6_and_7_print_where_they_were_unknown() {
+        for (kind, expected) in [(6, "ask 1\nask 1\n"), (7, "ask 1\nout 0\nno 35\n")] {
+            let mut lines = Vec::new();
+            walk_run(1, &scripts::unknown_kind(kind).bytes, &mut lines);
+            assert_eq!(String::from_utf8(lines).unwrap(), expected);
+        }
+    }
+
     #[test]
     fn the_old_runs_stay_in_front() {
-        let (input, output) = (input(), output(&input()));
+        let (input, output) = (input(), output_before_times(&input()));
         for old in &OLD {
             for (bytes, (size, sum)) in [(&input, old.input), (&output, old.output)] {
                 assert_eq!(CRC32.of(&bytes[..size]), sum);
@@ -202,7 +246,7 @@ mod tests {
             assert_eq!(lines(before), old.lines);
             assert!(after.starts_with(b"run 1\n"));
             // No changed rule: the old input alone gives the old output.
-            assert!(super::output(&input[..old.input.0]) == before);
+            assert!(output_before_times(&input[..old.input.0]) == before);
         }
     }
 
@@ -211,9 +255,9 @@ mod tests {
         let (input, output) = (input(), output(&input()));
         let [.., newest] = &OLD;
         let bytes = input.len() - newest.input.0;
-        assert!(bytes <= 40_000, "{bytes}");
+        assert!(bytes <= 120_000, "{bytes}");
         let lines = lines(&output) - newest.lines;
-        assert!(lines <= 8_000, "{lines}");
+        assert!(lines <= 10_000, "{lines}");
     }
 
     #[test]

@@ -3,6 +3,7 @@
 
 use super::walk_play::{Entry, Play, Way};
 use super::walk_scripts::Script;
+use crate::clock::{self, Clock, Pace};
 use crate::event::Event;
 use crate::generator::Generator;
 use crate::table::Side;
@@ -19,6 +20,9 @@ pub enum Step {
     Free(Way),
     /// Any peer of a side, with requests or with none.
     Gone(Side),
+    /// With the clock's time; some with a time that is refused.
+    AskBy,
+    RunOut,
 }
 
 /// What the steps of a run are drawn from.
@@ -35,11 +39,16 @@ pub struct Habits {
     pub enough: usize,
     /// ... only so many of the shares count.
     pub if_few: u64,
+    /// The first time of the clock, ...
+    pub start: u64,
+    /// ... and how it moves.
+    pub pace: Pace,
 }
 
 pub struct Crowd {
     play: Play,
     generator: Generator,
+    clock: Clock,
     habits: Habits,
     /// Requests that were freed, the last ones last.
     freed: Vec<Entry>,
@@ -50,6 +59,7 @@ impl Crowd {
         Crowd {
             play: Play::new(first),
             generator: Generator::new(habits.seed),
+            clock: Clock::new(habits.start, habits.pace),
             habits,
             freed: Vec::new(),
         }
@@ -73,6 +83,11 @@ impl Crowd {
             Step::NoSuchPeerOrNumber => self.no_such_peer_or_number(),
             Step::Free(way) => self.free(way),
             Step::Gone(side) => self.any_gone(side),
+            Step::AskBy => self.ask_by(),
+            Step::RunOut => {
+                let time = self.time();
+                self.play.run_out([time]);
+            }
         }
         let left = &self.play.entries;
         let is_freed = |entry: &&Entry| left.iter().all(|other| other.front != entry.front);
@@ -106,6 +121,20 @@ impl Crowd {
     fn ask(&mut self) {
         let (link, publisher) = (self.link(), self.publisher());
         self.play.fresh(link, publisher);
+    }
+
+    fn time(&mut self) -> u64 {
+        let time = self.clock.tick(&mut self.generator);
+        match self.generator.below(30) {
+            0 => clock::beyond(&mut self.generator),
+            _ => time,
+        }
+    }
+
+    fn ask_by(&mut self) {
+        let (link, publisher) = (self.link(), self.publisher());
+        let (time, timeout) = (self.time(), clock::timeout(&mut self.generator));
+        self.play.fresh_by(link, publisher, time, timeout);
     }
 
     fn entry(&mut self) -> Option<Entry> {

@@ -9,7 +9,8 @@ use crate::table::ROOM;
 
 pub struct Run {
     pub first: i64,
-    /// Each with its line, and the drop lines behind it.
+    /// Each with its line, and the drop lines behind it; but for a last one
+    /// that is cut.
     pub events: Vec<(Event, Vec<String>)>,
 }
 
@@ -28,10 +29,14 @@ pub fn runs(push: impl Fn(&mut Runs)) -> Vec<Run> {
         let mut events = Vec::new();
         while let Some(event) = Event::read(&mut bytes).unwrap() {
             let mut own = vec![lines.next().unwrap()];
+            let Ok(event) = event else {
+                assert_eq!(own[0], "no 35");
+                break;
+            };
             own.extend(std::iter::from_fn(|| {
                 lines.next_if(|line| line.starts_with("drop "))
             }));
-            events.push((event.unwrap(), own));
+            events.push((event, own));
         }
         runs.push(Run { first, events });
     }
@@ -48,6 +53,7 @@ fn lines_of(answer: Result<Answer, Refusal>, ends: &[i64]) -> Vec<String> {
             return vec![format!("cancel {publisher} {number}")];
         }
         Ok(Answer::Gone(side, count)) => (side.of("closed", "lost"), count),
+        Ok(Answer::RunOut(count)) => ("out", count),
         Err(refusal) => return vec![format!("no {}", refusal.number())],
     };
     let drop = |end: &[i64]| format!("drop {} {}", end[0], end[1]);

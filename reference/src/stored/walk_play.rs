@@ -5,7 +5,7 @@
 use super::walk_cases::Runs;
 use super::walk_scripts::Script;
 use crate::event::{Answer, Event};
-use crate::table::{End, Side, Table, LINKS, ROOM};
+use crate::table::{End, Request, Side, Table, LINKS, ROOM};
 
 #[derive(Clone, Copy)]
 pub struct Entry {
@@ -14,6 +14,7 @@ pub struct Entry {
     /// Publisher and publisher number.
     pub publisher: End,
     pub slot: usize,
+    pub deadline: Option<u64>,
 }
 
 impl Entry {
@@ -77,18 +78,36 @@ impl Play {
     pub fn push(&mut self, event: Event) {
         let answer = event.call(&mut self.table, &mut [0; 2 * ROOM]);
         match (event, answer) {
-            (Event::Ask(link, number, publisher), Ok(Answer::Ask(publisher_number))) => {
-                let slot = (0..ROOM).find(|&slot| self.at(slot).is_none());
-                self.entries.push(Entry {
-                    front: (link, number),
-                    publisher: (publisher, publisher_number),
-                    slot: slot.expect("a free slot"),
-                });
-            }
+            (_, Ok(Answer::Ask(_))) => self.enter_newest(),
             (_, Err(_)) => {}
-            _ => self.entries.retain(|entry| !frees(event, entry)),
+            _ => {
+                let latest = self.latest_time();
+                self.entries.retain(|entry| !frees(event, entry, latest));
+            }
         }
         event.encode(&mut self.script.bytes);
+    }
+
+    /// The request in flight that has no entry yet.
+    fn enter_newest(&mut self) {
+        let is_new = |request: &&Request| {
+            let mut entries = self.entries.iter();
+            entries.all(|entry| entry.front != request.front)
+        };
+        let newest = self.table.in_flight().find(is_new);
+        let newest = *newest.expect("a request just accepted");
+        let slot = (0..ROOM).find(|&slot| self.at(slot).is_none());
+        self.entries.push(Entry {
+            front: newest.front,
+            publisher: newest.publisher,
+            slot: slot.expect("a free slot"),
+            deadline: newest.deadline(),
+        });
+    }
+
+    /// The latest time seen.
+    pub fn latest_time(&self) -> u64 {
+        self.table.latest_time()
     }
 
     pub fn ask(&mut self, link: u8, number: i64, publisher: u8) {
@@ -107,12 +126,37 @@ impl Play {
         self.last = [number; LINKS as usize];
     }
 
-    /// Asks with the link's next front number; every fifth is negative.
-    pub fn fresh(&mut self, link: u8, publisher: u8) {
+    /// The link's next front number; every fifth is negative.
+    fn next_number(&mut self, link: u8) -> i64 {
         let last = &mut self.last[usize::from(link)];
         *last += 1;
-        let number = if *last % 5 == 0 { -*last } else { *last };
+        if *last % 5 == 0 {
+            -*last
+        } else {
+            *last
+        }
+    }
+
+    /// Asks with the link's next front number.
+    pub fn fresh(&mut self, link: u8, publisher: u8) {
+        let number = self.next_number(link);
         self.ask(link, number, publisher);
+    }
+
+    pub fn ask_by(&mut self, (link, number): End, publisher: u8, time: u64, timeout: u32) {
+        self.push(Event::AskBy(link, number, publisher, time, timeout));
+    }
+
+    /// As `fresh`, with a time and a timeout.
+    pub fn fresh_by(&mut self, link: u8, publisher: u8, time: u64, timeout: u32) {
+        let number = self.next_number(link);
+        self.ask_by((link, number), publisher, time, timeout);
+    }
+
+    pub fn run_out(&mut self, times: impl IntoIterator<Item = u64>) {
+        for time in times {
+            self.push(Event::RunOut(time));
+        }
     }
 
     /// So many requests of one link to one publisher.
@@ -197,9 +241,12 @@ impl Play {
     }
 }
 
-fn frees(event: Event, entry: &Entry) -> bool {
+fn frees(event: Event, entry: &Entry, latest_time: u64) -> bool {
     match event {
-        Event::Ask(..) => false,
+        Event::Ask(..) | Event::AskBy(..) => false,
+        Event::RunOut(_) => entry
+            .deadline
+            .is_some_and(|deadline| deadline <= latest_time),
         Event::Reply(publisher, number) => entry.publisher == (publisher, number),
         Event::Cancel(link, number) => entry.front == (link, number),
         Event::Gone(side, number) => entry.end(side).0 == number,

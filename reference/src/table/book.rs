@@ -1,5 +1,6 @@
-//! The book of document 01, word for word: a plain list of entries, searched
-//! from the front. Slow and obvious; the tests hold the table against it.
+//! The book of documents 01 and 02 (A2), word for word: a plain list of
+//! entries, searched from the front, and the latest time seen. Slow and
+//! obvious; the tests hold the table against it.
 
 use super::{End, Side};
 use crate::event::{Answer, Event};
@@ -11,6 +12,7 @@ pub struct Entry {
     pub front_number: i64,
     pub publisher: u8,
     pub publisher_number: i64,
+    pub deadline: Option<u64>,
 }
 
 #[derive(Clone)]
@@ -19,6 +21,7 @@ pub struct Book {
     pub entries: Vec<Entry>,
     pub first: i64,
     pub last: [Option<i64>; 8],
+    pub latest_time_seen: u64,
 }
 
 impl Book {
@@ -28,6 +31,7 @@ impl Book {
                 entries: Vec::new(),
                 first,
                 last: [None; 8],
+                latest_time_seen: 0,
             }),
             _ => Err(Refusal::OutOfRange),
         }
@@ -44,6 +48,11 @@ impl Book {
                 let count = self.gone(side, number, ends);
                 count.map(|count| Answer::Gone(side, count))
             }
+            Event::AskBy(link, number, publisher, time, timeout) => {
+                let end = (link, number);
+                self.ask_by(end, publisher, time, timeout).map(Answer::Ask)
+            }
+            Event::RunOut(time) => self.run_out(time, ends).map(Answer::RunOut),
         }
     }
 
@@ -76,8 +85,53 @@ impl Book {
             front_number,
             publisher,
             publisher_number,
+            deadline: None,
         });
         Ok(publisher_number)
+    }
+
+    /// An old ask; if that is accepted, the time is seen and the entry, which
+    /// is the last, gets its deadline.
+    fn ask_by(&mut self, end: End, publisher: u8, time: u64, ms: u32) -> Result<i64, Refusal> {
+        if time >= 4_611_686_018_427_387_904 {
+            return Err(Refusal::OutOfRange);
+        }
+        let publisher_number = self.ask(end.0, end.1, publisher)?;
+        self.see(time);
+        if let (Some(entry), 1..) = (self.entries.last_mut(), ms) {
+            entry.deadline = Some(self.latest_time_seen + u64::from(ms));
+        }
+        Ok(publisher_number)
+    }
+
+    fn see(&mut self, time: u64) {
+        if time > self.latest_time_seen {
+            self.latest_time_seen = time;
+        }
+    }
+
+    fn run_out(&mut self, time: u64, ends: &mut [i64]) -> Result<usize, Refusal> {
+        if time >= 4_611_686_018_427_387_904 {
+            return Err(Refusal::OutOfRange);
+        }
+        let mut after = self.clone();
+        after.see(time);
+        let (mut list, mut left) = (Vec::new(), Vec::new());
+        for entry in &self.entries {
+            match entry.deadline {
+                Some(deadline) if deadline <= after.latest_time_seen => {
+                    list.extend([i64::from(entry.link), entry.front_number]);
+                }
+                _ => left.push(*entry),
+            }
+        }
+        if ends.len() < list.len() {
+            return Err(Refusal::BufferTooSmall);
+        }
+        ends[..list.len()].copy_from_slice(&list);
+        after.entries = left;
+        *self = after;
+        Ok(list.len() / 2)
     }
 
     fn next(&self, publisher: u8) -> i64 {

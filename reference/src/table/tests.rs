@@ -1,7 +1,10 @@
+mod ask_by;
 mod gone;
+mod run_out;
 
 use super::book::Book;
 use super::*;
+use crate::clock::{Pace, LARGEST_TIME, PACES};
 use crate::event::Event;
 use crate::generator::Generator;
 use crate::traffic::{self, Profile, Traffic};
@@ -105,8 +108,17 @@ fn turn_numbering(generator: &mut Generator, table: &mut Table, book: &mut Book)
     book.last[usize::from(publisher)] = Some(last);
 }
 
+/// What the book keeps of each request, oldest accepted first.
+fn entries(table: &Table) -> Vec<(End, End, Option<u64>)> {
+    let slots = table.oldest_first(|_| true);
+    let requests = slots.iter().filter_map(|&slot| table.slots[slot]);
+    requests
+        .map(|request| (request.front, request.publisher, request.deadline()))
+        .collect()
+}
+
 /// One call on both, each lent a slice with the same content; compares the
-/// answers, the slices and the loads.
+/// answers, the slices, the loads, the requests and the latest time.
 fn call_both(table: &mut Table, book: &mut Book, event: Event, lent: &[i64]) {
     let (mut ours, mut theirs) = (lent.to_vec(), lent.to_vec());
     let answer = event.call(table, &mut ours);
@@ -115,6 +127,12 @@ fn call_both(table: &mut Table, book: &mut Book, event: Event, lent: &[i64]) {
     let loads: [usize; 8] = std::array::from_fn(|p| book.load(p as u8));
     assert_eq!(table.loads, loads, "{event:?}");
     assert_eq!(table.count(), book.entries.len());
+    let of_book = book.entries.iter().map(|entry| {
+        let publisher = (entry.publisher, entry.publisher_number);
+        ((entry.link, entry.front_number), publisher, entry.deadline)
+    });
+    assert!(entries(table).into_iter().eq(of_book), "{event:?}");
+    assert_eq!(table.latest_time(), book.latest_time_seen, "{event:?}");
 }
 
 /// Runs both on the same random calls.
@@ -143,18 +161,46 @@ fn agrees_with_the_book() {
     }
 }
 
+#[test]
+fn agrees_with_the_book_by_every_clock() {
+    let profiles = [traffic::CROWDED, traffic::MIXED, traffic::ROUGH];
+    for (seed, pace) in (50..).zip(PACES.into_iter().chain([Pace::Any])) {
+        for (turn, profile) in (0..).zip(profiles) {
+            let first = [1, i64::MAX - 30, 7][turn as usize];
+            compare(3 * seed + turn, first, profile.by_clock(pace), 20_000);
+        }
+    }
+}
+
+/// Any time near `turn`; some are far off or refused, but only in the last
+/// calls is the largest seen, for then no clock runs on.
+fn blind_time(generator: &mut Generator, turn: u64) -> u64 {
+    match generator.below(100) {
+        0 => 0,
+        1 => generator.draw() | 1 << 62,
+        2 => LARGEST_TIME + generator.below(3) + u64::from(turn < 95_000),
+        _ => turn + generator.below(40),
+    }
+}
+
 /// Calls with arguments taken blindly from small ranges, so that nothing
 /// depends on what the traffic thinks worth asking.
 #[test]
 fn agrees_with_the_book_on_blind_calls() {
     let mut generator = Generator::new(99);
     let (mut table, mut book) = (fresh(1), Book::fresh(1).ok().unwrap());
-    for _ in 0..100_000 {
+    for turn in 0..100_000 {
         let link = generator.below(34) as u8;
         let publisher = generator.below(9) as u8;
         let number = generator.below(12) as i64 - 4;
         let last = book.last.get(usize::from(publisher)).copied().flatten();
-        let event = match generator.below(40) {
+        let time = blind_time(&mut generator, turn);
+        let event = match generator.below(80) {
+            40..=41 => Event::RunOut(time),
+            42.. => {
+                let timeout = generator.pick(&[0, 1, 3, 9, 30, 90, 1 << 31, u32::MAX]);
+                Event::AskBy(link, number, publisher, time, timeout)
+            }
             0 => Event::Gone(Side::Front, link),
             1 => Event::Gone(Side::Publisher, publisher),
             2..=9 => Event::Cancel(link, number),

@@ -48,6 +48,7 @@ extern "C" {
     pub fn relay_fresh_lent(
         masks: *mut [u64; 9],
         numbers: *mut [i64; 136],
+        times: *mut [u64; 65],
         first: PublisherNumber,
     ) -> u8;
     pub fn relay_ask_lent(
@@ -55,9 +56,12 @@ extern "C" {
         numbers: *mut [i64; 136],
         places: *mut [u8; 128],
         order: *mut [u8; 64],
+        times: *mut [u64; 65],
         link: u8,
         number: FrontNumber,
         publisher: u8,
+        time: u64,
+        timeout: u32,
     ) -> Asked;
     pub fn relay_reply_lent(
         masks: *mut [u64; 9],
@@ -85,17 +89,38 @@ extern "C" {
         out: *mut i64,
         n: usize,
     ) -> Dropped;
+    pub fn relay_run_out_lent(
+        masks: *mut [u64; 9],
+        numbers: *const [i64; 136],
+        places: *const [u8; 128],
+        order: *mut [u8; 64],
+        times: *mut [u64; 65],
+        time: u64,
+        out: *mut i64,
+        n: usize,
+    ) -> Dropped;
 }
 
-// A table's calls: they lend its four arrays where they stand and copy none, as
-// the inline functions of include/relay.h do.
+// A table's calls: they lend its arrays where they stand and copy none, as the
+// inline functions of include/relay.h do.
 
 pub fn relay_fresh(t: &mut Table, first: PublisherNumber) -> u8 {
     // SAFETY: the arrays are borrowed.
-    unsafe { relay_fresh_lent(&mut t.masks, &mut t.numbers, first) }
+    unsafe { relay_fresh_lent(&mut t.masks, &mut t.numbers, &mut t.times, first) }
 }
 
 pub fn relay_ask(t: &mut Table, link: u8, number: FrontNumber, publisher: u8) -> Asked {
+    relay_ask_by(t, link, number, publisher, 0, 0)
+}
+
+pub fn relay_ask_by(
+    t: &mut Table,
+    link: u8,
+    number: FrontNumber,
+    publisher: u8,
+    time: u64,
+    timeout: u32,
+) -> Asked {
     // SAFETY: the arrays are borrowed, each once.
     unsafe {
         relay_ask_lent(
@@ -103,9 +128,12 @@ pub fn relay_ask(t: &mut Table, link: u8, number: FrontNumber, publisher: u8) ->
             &mut t.numbers,
             &mut t.places,
             &mut t.order,
+            &mut t.times,
             link,
             number,
             publisher,
+            time,
+            timeout,
         )
     }
 }
@@ -148,6 +176,22 @@ pub fn relay_gone(t: &mut Table, publisher: bool, number: u8, out: &mut [i64]) -
             &mut t.order,
             publisher,
             number,
+            out.as_mut_ptr(),
+            out.len(),
+        )
+    }
+}
+
+pub fn relay_run_out(t: &mut Table, time: u64, out: &mut [i64]) -> Dropped {
+    // SAFETY: the arrays are borrowed, each once; the pointer and length are a slice's.
+    unsafe {
+        relay_run_out_lent(
+            &mut t.masks,
+            &t.numbers,
+            &t.places,
+            &mut t.order,
+            &mut t.times,
+            time,
             out.as_mut_ptr(),
             out.len(),
         )

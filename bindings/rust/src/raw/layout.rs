@@ -173,7 +173,8 @@ fn structs() -> Vec<String> {
                 masks,
                 numbers,
                 places,
-                order
+                order,
+                times
             }
         ),
         lines!(relay_asked, Asked { refusal, number }),

@@ -188,6 +188,7 @@ pub struct Table {
     pub numbers: [i64; 136],
     pub places: [u8; 128],
     pub order: [u8; 64],
+    pub times: [u64; 65],
 }
 
 #[repr(C)]

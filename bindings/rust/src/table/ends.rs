@@ -1,4 +1,5 @@
-//! The other ends of the requests that a gone peer had.
+//! The other ends of the requests that were freed: those of a gone peer, or those
+//! that ran out.
 
 use super::Peer;
 use crate::{FrontNumber, PublisherNumber};
@@ -15,7 +16,7 @@ pub enum OtherEnds<'a> {
 }
 
 impl<'a> OtherEnds<'a> {
-    /// Those of the requests of `gone`, as they were written: two numbers each.
+    /// Those of the requests of `gone`, as they were written.
     pub(super) fn of(gone: Peer, written: &'a [i64]) -> OtherEnds<'a> {
         match gone {
             Peer::Front(_) => OtherEnds::Publishers(EndList::new(written, PublisherNumber)),
@@ -43,7 +44,8 @@ pub struct EndList<'a, N> {
 }
 
 impl<'a, N> EndList<'a, N> {
-    fn new(written: &'a [i64], number: fn(i64) -> N) -> EndList<'a, N> {
+    /// The ends as they were written: two numbers each.
+    pub(super) fn new(written: &'a [i64], number: fn(i64) -> N) -> EndList<'a, N> {
         EndList {
             pairs: written.chunks_exact(2),
             number,

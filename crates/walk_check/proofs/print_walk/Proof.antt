@@ -1,15 +1,16 @@
 -- Each part that is walked, and each text that is written, is within its slice. Assumes nothing.
 use mathlib.Core.Path.{_≡_}
+use native.Mathlib.Omega.{arith}
 use lib.ListN.{length}
 use borrow.Author.Needs.{needs}
 use Rattle.walk_check.proofs.print_walk.Statement.{statement}
 use Rattle.walk_check.proofs.print_walk.Tie as tie
 
 abbrev Inv-loop : tie.InvT-loop
-Inv-loop masks₀ numbers₀ places₀ order₀ events out₀ at₀ turns₀ masks numbers places order out at turns = length out ≡ length out₀
+Inv-loop masks₀ numbers₀ places₀ order₀ times₀ events out₀ at₀ turns₀ masks numbers places order times out at turns = length out ≡ length out₀
 
 abbrev μ-loop : tie.MeasureT-loop
-μ-loop masks₀ numbers₀ places₀ order₀ events out₀ at₀ turns₀ masks numbers places order out at turns = turns
+μ-loop masks₀ numbers₀ places₀ order₀ times₀ events out₀ at₀ turns₀ masks numbers places order times out at turns = turns
 
 loop-holds : tie.Need-loop-holds Inv-loop μ-loop
 loop-holds c = search needs
@@ -66,7 +67,10 @@ returns-2 : tie.Need-returns-2 Inv-loop μ-loop
 returns-2 c = search needs
 
 add-at : tie.Need-add-at Inv-loop μ-loop
-add-at c = search needs
+add-at c =
+    let read = c .before .before .before .before .before .before .before .before .before .before .before .before .before .before .before .before .before in
+    let start = read .before .before .before .before .before in
+    record { fits = omega (arith, c .before .least3 .ensures, read .least .ensures, start .good) }
 
 loop-less : tie.Need-loop-less Inv-loop μ-loop
 loop-less c = search needs

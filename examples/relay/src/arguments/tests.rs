@@ -44,6 +44,22 @@ fn times_are_as_said_or_as_the_usage_names_them() {
 }
 
 #[test]
+fn requests_run_out_as_said_or_never() {
+    let timeout = |words: &str| {
+        let options = with_options(words, "127.0.0.1:2");
+        options.map(|options| options.request.map_or(0, NonZeroU32::get))
+    };
+    assert_eq!(timeout(""), Ok(30_000));
+    assert_eq!(timeout("--request-ms 0"), Ok(0));
+    assert_eq!(timeout("--request-ms 1"), Ok(1));
+    assert_eq!(timeout("--request-ms 4294967295"), Ok(u32::MAX));
+    for value in ["4294967296", "-1", "soon"] {
+        let words = format!("--request-ms {value}");
+        assert_eq!(timeout(&words), Err(USAGE.to_string()));
+    }
+}
+
+#[test]
 fn links_without_settings_take_every_version_and_are_not_padded() {
     let (listen, options) = line(&["127.0.0.1:2"; 8]).unwrap();
     assert_eq!(listen, "127.0.0.1:1".parse().unwrap());

@@ -7,6 +7,7 @@ use crate::settings::LinkSettings;
 use relay::PUBLISHERS;
 use std::io;
 use std::net::{SocketAddr, TcpListener};
+use std::num::NonZeroU32;
 use std::sync::mpsc::{sync_channel, Receiver, RecvTimeoutError, SyncSender};
 use std::thread;
 use std::time::{Duration, Instant};
@@ -32,6 +33,8 @@ pub struct Options {
     pub keep_alive: Duration,
     /// From a connection's start until its link must be open.
     pub opening: Duration,
+    /// From a request's acceptance until it ends with an error, in milliseconds.
+    pub request: Option<NonZeroU32>,
     /// Whose cards links that may cipher have; there is one if any link may.
     pub card: Option<CardKind>,
 }

@@ -1,18 +1,20 @@
 //! Tells the core what happened and which time is over, and does what it wants.
 
+use super::beat::Beat;
 use super::connection::Connection;
 use super::printer::Printer;
 use super::stream::{spawn_reader, spawn_writer, Owner};
 use super::{Input, Options};
 use crate::card::CardKind;
 use crate::core::Core;
-use crate::event::{Action, Event, Opening, Peer};
+use crate::event::{Action, Event, Now, Opening, Peer};
 use relay::{NetPid, LINKS};
 use std::collections::hash_map::{Entry, HashMap};
 use std::collections::VecDeque;
 use std::fs::File;
 use std::io::{self, Read, Write};
 use std::net::{IpAddr, Shutdown, SocketAddr, TcpStream};
+use std::num::NonZeroU32;
 use std::sync::mpsc::SyncSender;
 use std::sync::Arc;
 use std::time::{Duration, Instant, SystemTime, UNIX_EPOCH};
@@ -25,9 +27,12 @@ pub struct Server {
     next_serial: u64,
     random: File,
     warnings: Printer,
+    /// By either clock.
     start: u32,
-    keep_alive: Duration,
-    next_tick: Instant,
+    started: Instant,
+    keep_alive: Beat,
+    /// For requests that have run out, if they do.
+    looks: Option<Beat>,
     opening: Duration,
 }
 
@@ -35,8 +40,10 @@ impl Server {
     pub fn new(options: &Options, inputs: SyncSender<Input>) -> io::Result<Server> {
         let publishers = options.publishers.each_ref();
         let publishers = publishers.map(|publisher| publisher.link.clone());
+        let started = Instant::now();
+        let of_timeout = |timeout: NonZeroU32| Beat::of_timeout(timeout.get(), started);
         Ok(Server {
-            core: Core::new(options.front.clone(), publishers),
+            core: Core::new(options.front.clone(), publishers, options.request),
             card: options.card,
             connections: HashMap::new(),
             inputs,
@@ -44,22 +51,28 @@ impl Server {
             random: File::open("/dev/urandom")?,
             warnings: Printer::new(io::stderr())?,
             start: clock(),
-            keep_alive: options.keep_alive,
-            next_tick: Instant::now() + options.keep_alive,
+            started,
+            keep_alive: Beat::new(options.keep_alive, started),
+            looks: options.request.map(of_timeout),
             opening: options.opening,
         })
     }
 
     pub fn next_deadline(&self) -> Instant {
         let deadlines = self.connections.values().filter_map(Connection::deadline);
-        deadlines.fold(self.next_tick, Instant::min)
+        let looks = self.looks.iter().map(|looks| looks.next);
+        deadlines
+            .chain(looks)
+            .fold(self.keep_alive.next, Instant::min)
     }
 
     /// Deals with all deadlines that are over.
     pub fn expire(&mut self, now: Instant) {
-        if self.next_tick <= now {
-            self.next_tick = now + self.keep_alive;
+        if self.keep_alive.is_due(now) {
             self.tell(Event::Tick);
+        }
+        if self.looks.as_mut().is_some_and(|looks| looks.is_due(now)) {
+            self.tell(Event::RunOut);
         }
         while let Some((peer, connection)) = self.overdue(now) {
             if connection.expire() {
@@ -189,13 +202,13 @@ impl Server {
 
     /// What giving up a connection leads to comes after what was wanted before.
     fn tell(&mut self, event: Event) {
-        let mut actions = VecDeque::from(self.core.handle(event, clock()));
+        let mut actions = VecDeque::from(self.core.handle(event, self.now()));
         while let Some(action) = actions.pop_front() {
             match action {
                 Action::Send(peer, packet) => {
                     let connection = self.connections.get_mut(&peer);
                     if connection.is_some_and(|connection| connection.send(packet).is_err()) {
-                        actions.extend(self.core.handle(Event::Slow(peer), clock()));
+                        actions.extend(self.core.handle(Event::Slow(peer), self.now()));
                     }
                 }
                 Action::Close(peer) => self.drop_connection(peer),
@@ -206,13 +219,21 @@ impl Server {
         }
     }
 
+    fn now(&self) -> Now {
+        Now {
+            seconds: clock(),
+            ms: self.started.elapsed().as_millis() as u64,
+        }
+    }
+
     /// Its link is free at once if nothing waits for its peer.
     fn drop_connection(&mut self, peer: Peer) {
         if let Entry::Occupied(mut entry) = self.connections.entry(peer) {
             if entry.get().is_idle() {
                 entry.remove();
             } else {
-                entry.get_mut().drop_by(Instant::now() + self.keep_alive);
+                let patience = self.keep_alive.interval;
+                entry.get_mut().drop_by(Instant::now() + patience);
             }
         }
     }

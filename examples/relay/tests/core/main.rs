@@ -12,6 +12,7 @@ mod padded;
 mod padding_faults;
 mod repeated;
 mod requests;
+mod run_out;
 mod timeouts;
 #[path = "../unreadable/mod.rs"]
 mod unreadable;

@@ -6,9 +6,13 @@ use reference::link::Outgoing;
 use reference::message::{Invoke, Message, Side};
 use relay::{Address, Addresses, NetPid, Settings, LINKS, PUBLISHERS};
 use relay_example::core::Core;
-use relay_example::event::{Action, Event, Opening, Peer, Warning};
+use relay_example::event::{Action, Event, Now, Opening, Peer, Warning};
 use relay_example::settings::{self, LinkSettings};
 use std::collections::VecDeque;
+use std::num::NonZeroU32;
+
+/// Of every request, in milliseconds, unless a test says another.
+pub const TIMEOUT: u64 = 30_000;
 
 /// The relay's end of every connection, and the other one.
 const OWN: NetPid = NetPid {
@@ -61,6 +65,8 @@ pub struct World {
     pub warned: Vec<(Peer, Warning)>,
     /// Gets bytes, and says nothing any more.
     pub silent: Option<Peer>,
+    /// The relay's clock in milliseconds, which stands unless a test sets it.
+    pub ms: u64,
 }
 
 impl World {
@@ -75,6 +81,16 @@ impl World {
 
     /// With these settings of the links to the front ends and to the publishers.
     pub fn with<L: Into<LinkSettings>>(front: L, publishers: [L; PUBLISHERS as usize]) -> World {
+        World::with_timeout(front, publishers, TIMEOUT as u32)
+    }
+
+    /// And with this timeout of every request, 0 for none.
+    pub fn with_timeout<L: Into<LinkSettings>>(
+        front: L,
+        publishers: [L; PUBLISHERS as usize],
+        timeout: u32,
+    ) -> World {
+        let timeout = NonZeroU32::new(timeout);
         let (front, publishers) = (front.into(), publishers.map(L::into));
         let ends = |count, side| {
             (0..count)
@@ -82,13 +98,14 @@ impl World {
                 .collect()
         };
         let mut world = World {
-            core: Core::new(front.clone(), publishers.clone()),
+            core: Core::new(front.clone(), publishers.clone(), timeout),
             links: (front, publishers),
             fronts: ends(LINKS, Side::Client),
             publishers: ends(PUBLISHERS, Side::Server),
             closed: Vec::new(),
             warned: Vec::new(),
             silent: None,
+            ms: 0,
         };
         for publisher in 0..PUBLISHERS {
             world.connect(Peer::Publisher(publisher));
@@ -142,7 +159,11 @@ impl World {
 
     /// Tells the core alone.
     pub fn handle(&mut self, event: Event) -> Vec<Action> {
-        self.core.handle(event, clock())
+        let now = Now {
+            seconds: clock(),
+            ms: self.ms,
+        };
+        self.core.handle(event, now)
     }
 
     /// Tells the core, and passes bytes to and fro until all is quiet. What went

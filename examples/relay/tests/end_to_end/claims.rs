@@ -2,9 +2,10 @@
 //! comes belongs to it.
 
 use crate::request::Request;
+use crate::REQUEST_MS;
 use reference::message::Outcome;
 use std::collections::{BTreeMap, VecDeque};
-use std::time::Instant;
+use std::time::{Duration, Instant};
 
 pub struct Claim {
     pub request: Request,
@@ -66,7 +67,8 @@ impl Claims {
             return wrong("no claim");
         };
         let Some(name) = name(first, outcome) else {
-            return wrong("a result of something else");
+            let age = first.since.elapsed();
+            return wrong(&format!("a result of something else after {age:?}"));
         };
         let claim = claims.pop_front();
         if claims.is_empty() {
@@ -101,6 +103,9 @@ fn name(claim: &Claim, outcome: &Outcome<Vec<u8>>) -> Option<&'static str> {
             20 => Some("refused 20"),
             32 => Some("refused 32"),
             33 => Some("refused 33"),
+            100 if claim.since.elapsed() >= Duration::from_millis(REQUEST_MS - 1) => {
+                Some("ran out")
+            }
             _ if *code == Request::unreadable(&claim.payload).refusal => Some("unreadable answers"),
             _ => {
                 let is_its_own = *code == Request::error_code(publisher) && *text == claim.payload;

@@ -1,19 +1,21 @@
 //! End to end, over loopback: the relay's program, 32 front ends and eight
 //! publishers that the second program plays. Answers come in any order, late,
-//! twice, unreadable or never; requests are cancelled; some have a timeout of 0;
-//! connections break on both sides; packets are cut anywhere. Each front end checks
-//! each answer, each publisher each request. There is a run for each choice of the
-//! sides whose links are padded, and two with links that go through the cipher.
+//! twice, unreadable or never; requests are cancelled or run out; some have a
+//! timeout of 0; connections break on both sides; packets are cut anywhere. Each
+//! front end checks each answer, each publisher each request. There is a run for
+//! each choice of the sides whose links are padded, and two with links that go
+//! through the cipher.
 //!
 //! Beside these runs, with its own relay each, what happens step by step: to old
-//! publishers, to what cannot be read, to slow readers, to slow openings, on links
-//! that are padded at both ends or at one, and on ciphered ones.
+//! publishers, to one that hangs, to what cannot be read, to slow readers, to slow
+//! openings, on links that are padded at both ends or at one, and on ciphered ones.
 
 mod answering;
 mod asking;
 mod cipher;
 mod claims;
 mod front;
+mod hung_publisher;
 #[path = "../no_timeout/mod.rs"]
 mod no_timeout;
 mod old_publisher;
@@ -51,6 +53,10 @@ const FRONTS: u8 = 32;
 const PUBLISHERS: u8 = 8;
 /// The lowest version of the link to each publisher.
 const LOWEST: [u8; PUBLISHERS as usize] = [0, 1, 2, 2, 0, 1, 2, 2];
+/// What a request has until the relay ends it, in milliseconds: less than a front
+/// end's patience. The relay's clock counts whole ones, so that an end may come one
+/// early.
+const REQUEST_MS: u64 = 1000;
 /// Everybody gives up then, with what was still open.
 const PATIENCE: Duration = Duration::from_secs(40);
 
@@ -155,12 +161,13 @@ fn run(links: Links) {
 fn start(links: Links, publishers: &[Publisher]) -> RelayProcess {
     let words: Vec<String> = publishers.iter().map(Publisher::word).collect();
     let fronts = links.fronts.options();
-    let options = format!("--retry-ms 50 --ping-ms 2000 {} {fronts}", profile::card());
+    let times = format!("--retry-ms 50 --ping-ms 2000 --request-ms {REQUEST_MS}");
+    let options = format!("{times} {} {fronts}", profile::card());
     RelayProcess::start(&options, &words)
 }
 
 /// How a request of a front end ends.
-const ENDS: [&str; 9] = [
+const ENDS: [&str; 10] = [
     "answers",
     "publisher errors",
     "unreadable requests",
@@ -168,6 +175,7 @@ const ENDS: [&str; 9] = [
     "refused 20",
     "refused 32",
     "refused 33",
+    "ran out",
     "cancelled",
     "closed with link",
 ];
@@ -186,6 +194,7 @@ fn check(tally: &Tally, counts: &Tally) {
         unreadable <= counts.get("unreadable"),
         "errors out of nothing"
     );
+    assert!(tally.get("ran out") <= counts.get("ran_out"), "run out");
     assert_eq!(tally.get("link repeated"), counts.get("repeated"));
     // A connection to a publisher that leaves before it is set up is counted too.
     let turned_away = counts.get("turned_away") - tally.get("turned away");

@@ -2,6 +2,7 @@
 //! and go, with many requests, few and none.
 
 use super::TOP;
+use crate::clock::Pace;
 use crate::stored::walk_cases::Runs;
 use crate::stored::walk_crowd::{Crowd, Habits, Step};
 use crate::stored::walk_play::Way;
@@ -43,6 +44,8 @@ pub fn push(runs: &mut Runs) {
             steps: &STEPS,
             enough: 10,
             if_few: 650,
+            start: 0,
+            pace: Pace::Stands,
         };
         runs.push(first, Crowd::new(first, habits).script(EVENTS));
     }

@@ -2,6 +2,7 @@
 //! freed in all four ways and in no order.
 
 use super::TOP;
+use crate::clock::Pace;
 use crate::stored::walk_cases::Runs;
 use crate::stored::walk_crowd::{Crowd, Habits, Step};
 use crate::stored::walk_play::Way;
@@ -39,6 +40,8 @@ pub fn push(runs: &mut Runs) {
             steps: &STEPS,
             enough: 52,
             if_few: 300,
+            start: 0,
+            pace: Pace::Stands,
         };
         runs.push(first, Crowd::new(first, habits).script(count));
     }

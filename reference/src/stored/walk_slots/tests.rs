@@ -48,6 +48,7 @@ impl Slots {
             Event::Reply(peer, number) => vec![self.take(|t| t.publisher == (peer, number))],
             Event::Cancel(peer, number) => vec![self.take(|t| t.front == (peer, number))],
             Event::Gone(side, _) => self.take_listed(lines, |t| side.of(t.publisher, t.front)),
+            Event::AskBy(..) | Event::RunOut(_) => unreachable!("no times in these runs"),
         }
     }
 
@@ -85,7 +86,8 @@ fn watch(mut seen: impl FnMut(&Slots, Event, &[Ticket])) {
 
 fn way(event: Event) -> usize {
     match event {
-        Event::Ask(..) => unreachable!("an ask frees nothing"),
+        Event::Ask(..) | Event::AskBy(..) => unreachable!("an ask frees nothing"),
+        Event::RunOut(_) => unreachable!("no times in these runs"),
         Event::Reply(..) => 0,
         Event::Cancel(..) => 1,
         Event::Gone(Side::Front, _) => 2,

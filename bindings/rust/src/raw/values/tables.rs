@@ -1,5 +1,6 @@
 //! Table, Asked, Replied, Cancelled, Dropped.
 
+mod any_contents;
 mod defined;
 mod garbage;
 mod gone;
@@ -7,11 +8,15 @@ mod places;
 #[path = "../../../tests/common/random.rs"]
 mod random;
 mod slots;
+mod times;
 
 use super::*;
 use crate::{FrontNumber, PublisherNumber};
 
 const FIRST: i64 = 0x0102_0304_0506_0708;
+
+/// The last time that is in range.
+const LAST_TIME: u64 = (1 << 62) - 1;
 
 /// The sides of a gone peer.
 const LINK: bool = false;
@@ -22,6 +27,7 @@ const EMPTY: Table = Table {
     numbers: [0; 136],
     places: [0; 128],
     order: [0; 64],
+    times: [0; 65],
 };
 
 fn fresh() -> Table {
@@ -42,11 +48,18 @@ fn slot(i: usize) -> usize {
     (11 * i + 63) % 64
 }
 
-/// A table by hand: 64 requests, from the oldest on, all their fields different.
+/// The deadline of a request of `full`.
+fn deadline(i: usize) -> u64 {
+    3000 + i as u64
+}
+
+/// A table by hand: 64 requests, from the oldest on, all their fields different,
+/// and no deadline has come.
 fn full() -> Table {
     let mut table = EMPTY;
     table.masks[0] = u64::MAX;
     table.numbers[128..].fill(1);
+    table.times[64] = deadline(0) - 1;
     for i in 0..64 {
         let slot = slot(i);
         let (link, front, publisher, number) = request(i);
@@ -54,6 +67,7 @@ fn full() -> Table {
         (table.numbers[slot], table.numbers[64 + slot]) = (front, number);
         (table.places[slot], table.places[64 + slot]) = (link, publisher);
         table.order[slot] = i as u8;
+        table.times[slot] = deadline(i);
     }
     table
 }
@@ -89,6 +103,8 @@ fn a_fresh_table() {
     assert_eq!(used.numbers[..128], full().numbers[..128]);
     assert_eq!(used.numbers[128..], [FIRST; 8]);
     assert_eq!((used.places, used.order), (full().places, full().order));
+    assert_eq!(used.times[..64], full().times[..64]);
+    assert_eq!(used.times[64], 0);
 }
 
 #[test]

@@ -1,7 +1,6 @@
 -- A gone peer for C: the call, its answer as numbers.
 -- Assumes nothing.
 use mathlib.Core.Path.{ap, _∙_}
-use Prim.Native.Nat.{_-_}
 use Rattle.inflight.specs.Tables.{Table, tableOf, Dropped, goneOf}
 use Rattle.inflight.specs.declared.Peer.{Peer}
 use Rattle.drops_c.specs.DropFields.{dropFields}
@@ -25,9 +24,9 @@ returns : tie.Need-returns
 returns c =
     let b = c .before .before in
     let a = b .before .before .before .before .before .args in
-    let t : Table = tableOf (a .masks .now) (a .numbers .now) (a .places .now) (a .order .now) in
     let p = b .before .before .before .before .peer-of .ensures in
-    let e = b .gone .ensures ∙ ap (λ (q : Peer). goneOf t q (a .out .now)) p in (
+    λ ts. let t : Table = tableOf (a .masks .now) (a .numbers .now) (a .places .now) (a .order .now) ts in
+    let e = b .gone .ensures ts ∙ ap (λ (q : Peer). goneOf t q (a .out .now)) p in (
       c .drop-fields .ensures ∙ ap (λ (x : Dropped). dropFields (x .answer)) e,
       ap (λ (x : Dropped). x .table) e,
       ap (λ (x : Dropped). x .slice) e,

@@ -2,12 +2,12 @@
 -- Assumes nothing.
 use mathlib.Core.Path.{_≡_, sym, ap, _∙_}
 use mathlib.Core.List.{List}
-use Prim.Native.Nat.{ℕ, _-_}
+use Prim.Native.Nat.{ℕ}
 use native.Mathlib.Omega.{arith}
 use lib.IntN.{ℤ}
 use lib.ListN.{length}
 use Rattle.inflight.specs.Matching.{overFront}
-use Rattle.inflight.specs.Tables.{Table, tableOf, endsOf, struck, leaving}
+use Rattle.inflight.specs.Tables.{Table, tableOf, endsAt, endsOf, struck, leaving}
 use Rattle.inflight_drop.proofs.DropLaws.{leaving-eq, staying-eq, drop-no, drop-yes, drop-eq}
 use borrow.Author.Needs.{needs}
 use Rattle.inflight_drop.proofs.dropping.drop_slots.Statement.{statement}
@@ -33,11 +33,14 @@ returns c =
     let k = c .before in
     let l = k .before .before in
     let a = l .before .before .before .before .before .args in
-    let t : Table = tableOf (a .masks .now) (a .numbers .now) (a .places .now) (a .order .now) in
+    λ ts. let t : Table = tableOf (a .masks .now) (a .numbers .now) (a .places .now) (a .order .now) ts in
     let leave = leaving-eq t (a .mask) (l .before .before .before .count .ensures .0) (l .lay-out .ensures) in
     let sum : k .count-leaving .result ≡ length (leaving t (a .mask)) =
     k .count-leaving .ensures .0 ∙ ap length leave in
-    sym (drop-no t (a .mask) (a .base) (a .out .now) (omega (arith, c .if1 .taken, sum)))
+    sym (drop-no t (a .mask) (endsAt (a .publishers)) (a .out .now) (omega (arith, c .if1 .taken, sum)))
+
+ends-at-requires : tie.Need-ends-at-requires
+ends-at-requires c κs = search needs
 
 write-ends-requires : tie.Need-write-ends-requires
 write-ends-requires c κs = search needs
@@ -52,20 +55,24 @@ returns-2 : tie.Need-returns-2
 unfolding struck
 returns-2 c =
     let w = c .before .before .before .before .before in
-    let k = w .before .before .before .before in
+    let k = w .before .before .before .before .before in
     let l = k .before .before in
     let a = l .before .before .before .before .before .args in
-    let t : Table = tableOf (a .masks .now) (a .numbers .now) (a .places .now) (a .order .now) in
+    λ ts. let t : Table = tableOf (a .masks .now) (a .numbers .now) (a .places .now) (a .order .now) ts in
     let laid = l .lay-out .ensures in
     let leave = leaving-eq t (a .mask) (l .before .before .before .count .ensures .0) laid in
     let sum : k .count-leaving .result ≡ length (leaving t (a .mask)) =
     k .count-leaving .ensures .0 ∙ ap length leave in
-    let written : (List ℕ → List ℤ) =
-    λ xs. overFront (endsOf (a .numbers .now) (a .places .now) (a .base) xs) (a .out .now) in
-    let ends = w .write-ends .ensures ∙ ap written leave in
+    let written : (ℕ → List ℕ → List ℤ) =
+    λ base xs. overFront (endsOf (a .numbers .now) (a .places .now) base xs) (a .out .now) in
+    let at = w .before .before .before .ends-at .ensures .0 in
+    let ends =
+    w .write-ends .ensures
+    ∙ ap (written (w .before .before .before .ends-at .result)) leave
+    ∙ ap (λ (base : ℕ). written base (leaving t (a .mask))) at in
     let places = c .strike .ensures .1 ∙ staying-eq t (a .mask) laid in
-    drop-eq (a .numbers .now) (a .places .now) (c .strike .ensures .0) places sum ends
-    ∙ sym (drop-yes t (a .mask) (a .base) (a .out .now) (omega (arith, w .before .before .before .if1 .left, sum)))
+    drop-eq (a .numbers .now) (a .places .now) ts (c .strike .ensures .0) places sum ends
+    ∙ sym (drop-yes t (a .mask) (endsAt (a .publishers)) (a .out .now) (omega (arith, w .before .before .before .before .if1 .left, sum)))
 
 pub drop-slots-spec : {M : Type 1} → statement M
 drop-slots-spec =
@@ -77,6 +84,7 @@ drop-slots-spec =
     count-leaving-requires
     mul-if1
     returns
+    ends-at-requires
     write-ends-requires
     strike-requires
     same-length

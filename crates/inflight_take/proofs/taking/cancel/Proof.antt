@@ -5,7 +5,7 @@ use borrow.Author.Needs.{needs}
 use borrow.Author.Tests.{le-leb, lt-leb}
 use mathlib.Core.Path.{sym, ap, _∙_}
 use mathlib.Core.List.{map}
-use Prim.Native.Nat.{ℕ, _+_, _-_, _^_}
+use Prim.Native.Nat.{ℕ, _+_, _^_}
 use native.Mathlib.Omega.{arith}
 use lib.IntN.{pos}
 use lib.ListN.{getD}
@@ -20,14 +20,14 @@ use Rattle.inflight_take.proofs.taking.cancel.Tie as tie
 
 returns : tie.Need-returns
 unfolding cancelOf
-returns c = rw (le-leb _ _ (c .if1 .taken))
+returns c = λ ts. rw (le-leb _ _ (c .if1 .taken))
 
 same-front-requires : tie.Need-same-front-requires
 same-front-requires c κs = search needs
 
 returns-2 : tie.Need-returns-2
 unfolding cancelOf
-returns-2 c = rw (lt-leb _ _ (c .before .before .if1 .left), sym (c .before .same-front .ensures) ∙ c .if2 .taken)
+returns-2 c = λ ts. rw (lt-leb _ _ (c .before .before .if1 .left), sym (c .before .same-front .ensures) ∙ c .if2 .taken)
 
 element-copy-out-find-front : tie.Need-element-copy-out-find-front
 element-copy-out-find-front c = search needs
@@ -37,7 +37,7 @@ find-front-requires c κs = search needs
 
 returns-3 : tie.Need-returns-3
 unfolding cancelOf
-returns-3 c = rw (lt-leb _ _ (c .before .before .before .before .before .if1 .left), sym (c .before .before .before .before .same-front .ensures) ∙ c .before .before .before .if2 .left, ← c .before .find-front .ensures, le-leb _ _ (c .if3 .taken))
+returns-3 c = λ ts. rw (lt-leb _ _ (c .before .before .before .before .before .if1 .left), sym (c .before .before .before .before .same-front .ensures) ∙ c .before .before .before .if2 .left, ← c .before .find-front .ensures, le-leb _ _ (c .if3 .taken))
 
 add-publisher : tie.Need-add-publisher
 add-publisher c = search needs
@@ -68,7 +68,7 @@ returns-4 c =
     let z = slot-low s (omega arith) in
     let m = c .free .ensures .0 ∙ ap (λ (i : ℕ). cutAll (2 ^ i) ms) z in
     let o = c .free .ensures .1 ∙ ap (λ (i : ℕ). map (closedUp (getD (a .order .now) i 0)) (a .order .now)) z in
-    rw (lt-leb _ _ (c .before .before .before .before .before .before .before .before .before .before .if1 .left), sym (c .before .before .before .before .before .before .before .before .before .same-front .ensures) ∙ c .before .before .before .before .before .before .before .before .if2 .left, ← c .before .before .before .before .before .before .find-front .ensures, lt-leb _ _ (c .before .before .before .before .before .if3 .left)) (cancel-eq ns (a .places .now) _ m o (toZ-ofZ f))
+    λ ts. rw (lt-leb _ _ (c .before .before .before .before .before .before .before .before .before .before .if1 .left), sym (c .before .before .before .before .before .before .before .before .before .same-front .ensures) ∙ c .before .before .before .before .before .before .before .before .if2 .left, ← c .before .before .before .before .before .before .find-front .ensures, lt-leb _ _ (c .before .before .before .before .before .if3 .left)) (cancel-eq ns (a .places .now) ts _ m o (toZ-ofZ f))
 
 pub cancel-spec : {M : Type 1} → statement M
 cancel-spec =

@@ -5,7 +5,7 @@ use borrow.Author.Needs.{needs}
 use borrow.Author.Tests.{le-leb, lt-leb}
 use mathlib.Core.Path.{sym, ap, _∙_}
 use mathlib.Core.List.{map}
-use Prim.Native.Nat.{ℕ, _-_, _^_}
+use Prim.Native.Nat.{ℕ, _^_}
 use native.Mathlib.Omega.{arith}
 use lib.IntN.{pos}
 use lib.ListN.{getD}
@@ -20,14 +20,14 @@ use Rattle.inflight_take.proofs.taking.reply.Tie as tie
 
 returns : tie.Need-returns
 unfolding replyOf
-returns c = rw (le-leb _ _ (c .if1 .taken))
+returns c = λ ts. rw (le-leb _ _ (c .if1 .taken))
 
 same-number-requires : tie.Need-same-number-requires
 same-number-requires c κs = search needs
 
 returns-2 : tie.Need-returns-2
 unfolding replyOf
-returns-2 c = rw (lt-leb _ _ (c .before .before .if1 .left), sym (c .before .same-number .ensures) ∙ c .if2 .taken)
+returns-2 c = λ ts. rw (lt-leb _ _ (c .before .before .if1 .left), sym (c .before .same-number .ensures) ∙ c .if2 .taken)
 
 add-find-number : tie.Need-add-find-number
 add-find-number c = search needs
@@ -43,7 +43,7 @@ find-number-requires c κs = search needs
 
 returns-3 : tie.Need-returns-3
 unfolding replyOf
-returns-3 c = rw (lt-leb _ _ (c .before .before .before .before .before .if1 .left), sym (c .before .before .before .before .same-number .ensures) ∙ c .before .before .before .if2 .left, ← c .before .find-number .ensures, le-leb _ _ (c .if3 .taken))
+returns-3 c = λ ts. rw (lt-leb _ _ (c .before .before .before .before .before .if1 .left), sym (c .before .before .before .before .same-number .ensures) ∙ c .before .before .before .if2 .left, ← c .before .find-number .ensures, le-leb _ _ (c .if3 .taken))
 
 element-copy-out-link : tie.Need-element-copy-out-link
 element-copy-out-link c = search needs
@@ -68,7 +68,7 @@ returns-4 c =
     let z = slot-low s (omega arith) in
     let m = c .free .ensures .0 ∙ ap (λ (i : ℕ). cutAll (2 ^ i) ms) z in
     let o = c .free .ensures .1 ∙ ap (λ (i : ℕ). map (closedUp (getD (a .order .now) i 0)) (a .order .now)) z in
-    rw (lt-leb _ _ (c .before .before .before .before .before .before .before .before .before .before .if1 .left), sym (c .before .before .before .before .before .before .before .before .before .same-number .ensures) ∙ c .before .before .before .before .before .before .before .before .if2 .left, ← c .before .before .before .before .before .before .find-number .ensures, lt-leb _ _ (c .before .before .before .before .before .if3 .left)) (reply-eq ns (a .places .now) _ m o (toZ-ofZ f))
+    λ ts. rw (lt-leb _ _ (c .before .before .before .before .before .before .before .before .before .before .if1 .left), sym (c .before .before .before .before .before .before .before .before .before .same-number .ensures) ∙ c .before .before .before .before .before .before .before .before .if2 .left, ← c .before .before .before .before .before .before .find-number .ensures, lt-leb _ _ (c .before .before .before .before .before .if3 .left)) (reply-eq ns (a .places .now) ts _ m o (toZ-ofZ f))
 
 pub reply-spec : {M : Type 1} → statement M
 reply-spec =

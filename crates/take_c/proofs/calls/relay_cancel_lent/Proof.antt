@@ -1,7 +1,6 @@
 -- Cancel for C: the call, its answer as numbers.
 -- Assumes nothing.
 use mathlib.Core.Path.{ap, _∙_}
-use Prim.Native.Nat.{_-_}
 use Rattle.inflight.specs.Tables.{Cancelled}
 use Rattle.take_c.specs.TakeFields.{cancelFields}
 use borrow.Author.Needs.{needs}
@@ -15,7 +14,7 @@ cancel-fields-requires : tie.Need-cancel-fields-requires
 cancel-fields-requires c κs = search needs
 
 returns : tie.Need-returns
-returns c = (c .cancel-fields .ensures ∙ ap (λ (x : Cancelled). cancelFields (x .answer)) (c .before .cancel .ensures), ap (λ (x : Cancelled). x .table) (c .before .cancel .ensures))
+returns c = λ ts. (c .cancel-fields .ensures ∙ ap (λ (x : Cancelled). cancelFields (x .answer)) (c .before .cancel .ensures ts), ap (λ (x : Cancelled). x .table) (c .before .cancel .ensures ts))
 
 pub relay-cancel-lent-spec : {M : Type 1} → statement M
 relay-cancel-lent-spec = tie.close (tie.spec cancel-requires cancel-fields-requires returns)

@@ -1,7 +1,6 @@
 -- Reply for C: the call, its answer as numbers.
 -- Assumes nothing.
 use mathlib.Core.Path.{ap, _∙_}
-use Prim.Native.Nat.{_-_}
 use Rattle.inflight.specs.Tables.{Replied}
 use Rattle.take_c.specs.TakeFields.{replyFields}
 use borrow.Author.Needs.{needs}
@@ -15,7 +14,7 @@ reply-fields-requires : tie.Need-reply-fields-requires
 reply-fields-requires c κs = search needs
 
 returns : tie.Need-returns
-returns c = (c .reply-fields .ensures ∙ ap (λ (x : Replied). replyFields (x .answer)) (c .before .reply .ensures), ap (λ (x : Replied). x .table) (c .before .reply .ensures))
+returns c = λ ts. (c .reply-fields .ensures ∙ ap (λ (x : Replied). replyFields (x .answer)) (c .before .reply .ensures ts), ap (λ (x : Replied). x .table) (c .before .reply .ensures ts))
 
 pub relay-reply-lent-spec : {M : Type 1} → statement M
 relay-reply-lent-spec = tie.close (tie.spec reply-requires reply-fields-requires returns)

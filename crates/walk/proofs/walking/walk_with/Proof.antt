@@ -8,29 +8,29 @@ use lib.ListN.{length, drop}
 use lib.Seq.{length-take-le}
 use Rattle.wire.proofs.StoreLaws.{lent}
 use Rattle.inflight.specs.Tables.{Table, tableOf}
-use Rattle.walk.specs.Events.{eventOf}
+use Rattle.walk_events.specs.Events.{eventOf}
 use Rattle.walk.proofs.WalkLaws.{Came, came-first, none-left, wait-ends, full-ends, record-within, stop-ends, goes-on}
 use Rattle.walk.proofs.WalkLaws.{Lines, lines-known, lines-short}
 use Rattle.walk.proofs.walking.walk_with.Statement.{statement}
 use Rattle.walk.proofs.walking.walk_with.Tie as tie
 
 abbrev Inv-loop : tie.InvT-loop
-Inv-loop masks₀ numbers₀ places₀ order₀ events out₀ last text₀ at₀ to₀ turns₀ masks numbers places order out text at to turns =
-    Came (tableOf masks₀ numbers₀ places₀ order₀) events out₀ last (tableOf masks numbers places order) at to turns out
+Inv-loop masks₀ numbers₀ places₀ order₀ times₀ events out₀ last text₀ at₀ to₀ turns₀ masks numbers places order times out text at to turns =
+    Came (tableOf masks₀ numbers₀ places₀ order₀ times₀) events out₀ last (tableOf masks numbers places order times) at to turns out
     × (4096 ≤ length text) × (length text ≡ length text₀)
 
 abbrev μ-loop : tie.MeasureT-loop
-μ-loop masks₀ numbers₀ places₀ order₀ events out₀ last text₀ at₀ to₀ turns₀ masks numbers places order out text at to turns = turns
+μ-loop masks₀ numbers₀ places₀ order₀ times₀ events out₀ last text₀ at₀ to₀ turns₀ masks numbers places order times out text at to turns = turns
 
 -- the table that was lent, the one of this turn, and the one that its event leaves
 abbrev first : tie.Start Inv-loop μ-loop → Table
-first c = tableOf (c .args .masks .now) (c .args .numbers .now) (c .args .places .now) (c .args .order .now)
+first c = tableOf (c .args .masks .now) (c .args .numbers .now) (c .args .places .now) (c .args .order .now) (c .args .times .now)
 
 abbrev here : tie.At-loop Inv-loop μ-loop → Table
-here c = tableOf (c .loop .masks) (c .loop .numbers) (c .loop .places) (c .loop .order)
+here c = tableOf (c .loop .masks) (c .loop .numbers) (c .loop .places) (c .loop .order) (c .loop .times)
 
 abbrev next : tie.After-turn Inv-loop μ-loop → Table
-next c = tableOf (c .turn .last .0) (c .turn .last .1 .0) (c .turn .last .1 .1 .0) (c .turn .last .1 .1 .1 .0)
+next c = tableOf (c .turn .last .0) (c .turn .last .1 .0) (c .turn .last .1 .1 .0) (c .turn .last .1 .1 .1 .0) (c .turn .last .1 .1 .1 .1 .0)
 
 loop-holds : tie.Need-loop-holds Inv-loop μ-loop
 loop-holds c =
@@ -57,7 +57,7 @@ roomy c =
 
 -- of a turn that was made: where its event was read, and where it began
 abbrev asked : tie.After-turn Inv-loop μ-loop → tie.After-event Inv-loop μ-loop
-asked c = c .before .before .before .before .before .before .before .before .before .before .before
+asked c = c .before .before .before .before .before .before .before .before .before .before .before .before
 
 abbrev began : tie.After-turn Inv-loop μ-loop → tie.At-loop Inv-loop μ-loop
 began c = asked c .before .before .before
@@ -65,7 +65,7 @@ began c = asked c .before .before .before
 -- its lines
 known : (c : tie.After-turn Inv-loop μ-loop)
     → Lines (here (began c)) (next c) (asked c .event .result) (c .turn .result) (began c .loop .text)
-    (c .turn .last .1 .1 .1 .1 .1 .0)
+    (c .turn .last .1 .1 .1 .1 .1 .1 .0)
 known c = lines-known (c .turn .ensures) (began c .loop .inv .1)
 
 slice-reshare-prefix-copy : tie.Need-slice-reshare-prefix-copy Inv-loop μ-loop
@@ -76,19 +76,24 @@ slice-aggregate-copy c = let k = known (c .before .before .before .before) in sy
 
 -- which are no longer than what is left
 fitting : (c : tie.After-turn Inv-loop μ-loop)
-    → c .turn .result ≤ c .before .before .before .before .before .before .before .left .result
+    → c .turn .result ≤ c .before .before .before .before .before .before .before .before .left .result
 fitting c =
-    let room = c .before .before .before .before .before .before in
+    let room = c .before .before .before .before .before .before .before in
     omega (arith, known c .size, lines-short (here (began c)) (asked c .event .result), room .if2 .left)
 
 add-to : tie.Need-add-to Inv-loop μ-loop
-add-to c = let f = fitting (c .before .before .before .before .before .before .before) in search needs
+add-to c =
+    let turned = c .before .before .before .before .before .before .before in
+    let loop = began turned in
+    let start = loop .before .before .before .before in
+    let left = turned .before .before .before .before .before .before .before .before .left .ensures in
+    record { fits = omega (arith, fitting turned, left, loop .loop .inv .0 .same, start .good) }
 
 returns : tie.Need-returns Inv-loop μ-loop
 returns c =
     let copied = c .before .before .before .before in
     let turned = copied .before .before .before .before .before in
-    let room = turned .before .before .before .before .before .before in
+    let room = turned .before .before .before .before .before .before .before in
     let goes = room .before .before .before in
     let reads = asked turned in
     let loop = began turned in
@@ -112,7 +117,7 @@ loop-again : tie.Need-loop-again Inv-loop μ-loop
 loop-again c =
     let copied = c .before .before .before .before in
     let turned = copied .before .before .before .before .before in
-    let room = turned .before .before .before .before .before .before in
+    let room = turned .before .before .before .before .before .before .before in
     let goes = room .before .before .before in
     let reads = asked turned in
     let loop = began turned in

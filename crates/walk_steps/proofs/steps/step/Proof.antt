@@ -12,7 +12,7 @@ part-write-all-end c = told-written _ _ _ _ (c .before .before .before .walk .en
 move-front-requires : tie.Need-move-front-requires
 move-front-requires c κs =
     let walked = c .before .before .before .before .before .before in
-    let ended = walked .before .before .before .before .before .before .before .before in
+    let ended = walked .before .before .before .before .before .before .before .before .before in
     let f = ended .before .before .before .fill .ensures .filled in
     (told-consumed _ _ _ _ _ (walked .walk .ensures), omega (arith, f .fits, f .size))
 
@@ -23,16 +23,16 @@ returns : tie.Need-returns
 returns c =
     let moved = c .before .before .before in
     let walked = moved .before .before .before .before .before .before .before in
-    let ended = walked .before .before .before .before .before .before .before .before in
+    let ended = walked .before .before .before .before .before .before .before .before .before in
     let read = ended .before .before .before in
     let held = read .before .before in
     let a = held .before .before .before .args in
     let w = walked .walk .last in
-    stepped (tableOf (a .masks .now) (a .numbers .now) (a .places .now) (a .order .now)) (a .p) (a .events .now)
+    stepped (tableOf (a .masks .now) (a .numbers .now) (a .places .now) (a .order .now) (a .times .now)) (a .p) (a .events .now)
     (a .out .now) (read .fill .last .0) (held .least .result) (read .fill .result) (ended .no-more .result)
     (moved .before .before .write-all .result) (c .goes-on .result)
-    (tableOf (w .0) (w .1 .0) (w .1 .1 .0) (w .1 .1 .1 .0)) (walked .walk .result) (moved .move-front .last .0)
-    (w .1 .1 .1 .1 .1 .0) (held .least .ensures) (read .fill .ensures) (ended .no-more .ensures)
+    (tableOf (w .0) (w .1 .0) (w .1 .1 .0) (w .1 .1 .1 .0) (w .1 .1 .1 .1 .0)) (walked .walk .result) (moved .move-front .last .0)
+    (w .1 .1 .1 .1 .1 .1 .0) (held .least .ensures) (read .fill .ensures) (ended .no-more .ensures)
     (walked .walk .ensures) (moved .move-front .ensures) (c .goes-on .ensures)
 
 pub step-spec : {M : Type 1} → statement M

@@ -21,7 +21,7 @@ returns : tie.Need-returns
 unfolding turnOf linesOf afterEvent callLines
 returns c =
     turn-is (λ (r : Asked). r .table) (λ (r : Asked). askLine (r .answer))
-    (c .before .before .before .before .before .before .before .before .before .before .args .text .now)
+    (c .before .before .before .before .before .before .before .before .before .before .before .args .text .now)
     (c .before .before .before .before .ask .ensures) (c .before .before .put-ask .ensures)
 
 pub ask-turn-spec : {M : Type 1} → statement M

@@ -19,10 +19,10 @@ same-length c = search needs
 
 returns : tie.Need-returns
 unfolding turnOf linesOf afterEvent callLines
-returns c =
+returns c = λ ts.
     turn-is (λ (r : Cancelled). r .table) (λ (r : Cancelled). cancelLine (r .answer))
     (c .before .before .before .before .before .before .before .before .args .text .now)
-    (c .before .before .before .before .cancel .ensures) (c .before .before .put-cancel .ensures)
+    (c .before .before .before .before .cancel .ensures ts) (c .before .before .put-cancel .ensures)
 
 pub cancel-turn-spec : {M : Type 1} → statement M
 cancel-turn-spec = tie.close (tie.spec cancel-requires put-cancel-requires same-length returns)

@@ -1,6 +1,7 @@
 -- A gone peer: its table, and its answer's lines.
 -- Assumes nothing.
 use mathlib.Core.Path.{ap}
+use mathlib.Core.List.{[]}
 use native.Mathlib.Omega.{arith}
 use Rattle.inflight.specs.Tables.{tableOf, Dropped}
 use Rattle.walk_turn.specs.Lines.{goneWord, countOf, droppedLines, callLines}
@@ -23,8 +24,8 @@ put-gone-requires : tie.Need-put-gone-requires
 put-gone-requires c κs =
     let b = c .before .before .before in
     let a = b .before .before .before .before .before .args in
-    let e = ap (λ (r : Dropped). countOf (r .answer)) (b .gone .ensures) in
-    let t = tableOf (a .masks .now) (a .numbers .now) (a .places .now) (a .order .now) in
+    let e = ap (λ (r : Dropped). countOf (r .answer)) (b .gone .ensures []) in
+    let t = tableOf (a .masks .now) (a .numbers .now) (a .places .now) (a .order .now) [] in
     omega (arith, e, gone-count t (a .peer) lentSlice)
 
 same-length : tie.Need-same-length
@@ -35,8 +36,8 @@ unfolding turnOf linesOf afterEvent callLines
 returns c =
     let b = c .before .before .before .before .before .before in
     let a = b .before .before .before .before .before .args in
-    turn-is (λ (r : Dropped). r .table) (λ (r : Dropped). droppedLines (goneWord (a .peer)) (r .answer) (r .slice))
-    (a .text .now) (b .gone .ensures) (c .before .before .put-gone .ensures)
+    λ ts. turn-is (λ (r : Dropped). r .table) (λ (r : Dropped). droppedLines (goneWord (a .peer)) (r .answer) (r .slice))
+    (a .text .now) (b .gone .ensures ts) (c .before .before .put-gone .ensures)
 
 pub gone-turn-spec : {M : Type 1} → statement M
 gone-turn-spec =

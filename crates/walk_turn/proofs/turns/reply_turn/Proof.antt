@@ -19,10 +19,10 @@ same-length c = search needs
 
 returns : tie.Need-returns
 unfolding turnOf linesOf afterEvent callLines
-returns c =
+returns c = λ ts.
     turn-is (λ (r : Replied). r .table) (λ (r : Replied). replyLine (r .answer))
     (c .before .before .before .before .before .before .before .before .args .text .now)
-    (c .before .before .before .before .reply .ensures) (c .before .before .put-reply .ensures)
+    (c .before .before .before .before .reply .ensures ts) (c .before .before .put-reply .ensures)
 
 pub reply-turn-spec : {M : Type 1} → statement M
 reply-turn-spec = tie.close (tie.spec reply-requires put-reply-requires same-length returns)

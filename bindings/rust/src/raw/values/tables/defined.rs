@@ -51,8 +51,19 @@ fn strike(table: &mut Table, slot: usize) {
     unmask(table, 1 << slot);
 }
 
-fn ask_refusal(table: &Table, link: u8, front: i64, publisher: u8) -> Option<u8> {
-    if link > 31 || publisher > 7 {
+/// Below 2^62, whatever the table says that it has seen.
+fn latest(table: &Table, time: u64) -> u64 {
+    table.times[64].max(time).min(LAST_TIME)
+}
+
+/// The used slots whose deadline is there and has come.
+fn due(table: &Table, now: u64) -> u64 {
+    let due = slots(table.masks[0]).filter(|&i| (1..=now).contains(&table.times[i]));
+    due.fold(0, |mask, i| mask | 1 << i)
+}
+
+fn ask_refusal(table: &Table, link: u8, front: i64, publisher: u8, time: u64) -> Option<u8> {
+    if link > 31 || publisher > 7 || time > LAST_TIME {
         return Some(30);
     }
     let load = |p| mine(table, p).count_ones();
@@ -67,9 +78,16 @@ fn ask_refusal(table: &Table, link: u8, front: i64, publisher: u8) -> Option<u8>
     refusals.into_iter().find(|r| r.0).map(|r| r.1)
 }
 
-/// The number that is given, or a refusal.
-pub fn ask(table: &mut Table, link: u8, front: i64, publisher: u8) -> Result<i64, u8> {
-    if let Some(refusal) = ask_refusal(table, link, front, publisher) {
+/// The number that is given, or a refusal; the time and the timeout, 0 for none,
+/// as they were brought.
+pub fn ask(
+    table: &mut Table,
+    link: u8,
+    front: i64,
+    publisher: u8,
+    (time, timeout): (u64, u32),
+) -> Result<i64, u8> {
+    if let Some(refusal) = ask_refusal(table, link, front, publisher, time) {
         return Err(refusal);
     }
     let count = table.masks[0].count_ones() as usize;
@@ -87,6 +105,12 @@ pub fn ask(table: &mut Table, link: u8, front: i64, publisher: u8) -> Result<i64
     table.numbers[128 + p] = after(number);
     (table.places[slot], table.places[64 + slot]) = (link, publisher);
     table.order[slot] = count as u8;
+    let now = latest(table, time);
+    table.times[slot] = match timeout {
+        0 => 0,
+        _ => now + u64::from(timeout),
+    };
+    table.times[64] = now;
     table.masks[0] |= 1 << slot;
     table.masks[1 + p] |= 1 << slot;
     Ok(number)
@@ -124,6 +148,17 @@ pub fn gone(table: &mut Table, publisher: bool, number: u8, out: &mut [i64]) -> 
         LINK if number > 31 => Err(30),
         LINK => freed(table, of_link(table, number), 64, out),
     }
+}
+
+/// The same of deadlines that have come.
+pub fn run_out(table: &mut Table, time: u64, out: &mut [i64]) -> Result<usize, u8> {
+    if time > LAST_TIME {
+        return Err(30);
+    }
+    let now = latest(table, time);
+    let count = freed(table, due(table, now), 0, out)?;
+    table.times[64] = now;
+    Ok(count)
 }
 
 fn of_link(table: &Table, link: u8) -> u64 {

@@ -1,14 +1,14 @@
-//! Contents that no call has written: every call answers what is defined for
-//! them, and a refused one writes nothing.
+//! Contents that no call has written, by hand: every call answers what is defined
+//! for them, and a refused one writes nothing.
 
-use super::random::Random;
-use super::{defined, *};
+use super::*;
 
 const ONES: Table = Table {
     masks: [u64::MAX; 9],
     numbers: [-1; 136],
     places: [255; 128],
     order: [255; 64],
+    times: [u64::MAX; 65],
 };
 
 /// Requests 70, 71 and so on of link 3 to publisher 5, in slots 0, 1 and so on,
@@ -53,6 +53,7 @@ fn asks_of_all_ones() {
         (expected.numbers[slot], expected.numbers[128]) = (1, 0);
         (expected.places[slot], expected.places[64 + slot]) = (0, 0);
         expected.order[slot] = 63;
+        (expected.times[slot], expected.times[64]) = (0, LAST_TIME);
         assert_eq!(table, expected);
     }
 }
@@ -245,96 +246,4 @@ fn slots_with_the_same_place() {
     assert_eq!(relay_cancel(&mut table, 3, FrontNumber(71)).refusal, 0);
     assert_eq!((table.masks[0], table.masks[6]), (0b101, 0b101));
     assert_eq!(table.order[..3], [1, 1, 1]);
-}
-
-/// An answer of ours, and what is defined: a refusal, a place and a number.
-type Answers = ((u8, u8, i64), Result<(u8, i64), u8>);
-
-/// The same ask, reply or cancel on two tables.
-fn one(kind: usize, tables: [&mut Table; 2], a: u8, b: u8, number: i64) -> Answers {
-    let [table, other] = tables;
-    match kind {
-        0 => {
-            let r = relay_reply(table, b, PublisherNumber(number));
-            let defined = defined::reply(other, b, number);
-            ((r.refusal, r.link, r.number.0), defined)
-        }
-        1 => {
-            let r = relay_cancel(table, a, FrontNumber(number));
-            let defined = defined::cancel(other, a, number);
-            ((r.refusal, r.publisher, r.number.0), defined)
-        }
-        _ => {
-            let r = relay_ask(table, a, FrontNumber(number), b);
-            let defined = defined::ask(other, a, number, b);
-            ((r.refusal, 0, r.number.0), defined.map(|n| (0, n)))
-        }
-    }
-}
-
-/// The same gone peer on two tables, into the same room.
-fn many(publisher: bool, tables: [&mut Table; 2], number: u8, room: usize) -> Answers {
-    let [table, other] = tables;
-    let (mut out, mut wanted) = ([-9; 130], [-9; 130]);
-    let ours = relay_gone(table, publisher, number, &mut out[..room]);
-    let defined = defined::gone(other, publisher, number, &mut wanted[..room]);
-    assert_eq!(out, wanted);
-    let counts = defined.map(|n| (0, n as i64));
-    ((ours.refusal, 0, ours.count as i64), counts)
-}
-
-const NUMBERS: [i64; 8] = [0, 1, 2, 3, -1, i64::MAX, i64::MAX - 1, i64::MIN];
-
-fn compare(random: &mut Random, table: &mut Table) {
-    let mut other = *table;
-    let tables = [&mut *table, &mut other];
-    let (a, b) = (random.below(34) as u8, random.below(9) as u8);
-    let room = [0, 1, 2, 5, 16, 40, 127, 128, 130][random.below(9)];
-    let (ours, defined) = match random.below(6) {
-        4 => many(LINK, tables, a, room),
-        5 => many(PUBLISHER, tables, b, room),
-        kind => one(kind, tables, a, b, NUMBERS[random.below(8)]),
-    };
-    let defined = defined.map_or_else(|no| (no, 0, 0), |(place, n)| (0, place, n));
-    assert_eq!((ours, *table), (defined, other));
-}
-
-/// Any bytes, places that all slots could have, each of these once, or few.
-fn any_order(random: &mut Random, kind: usize) -> [u8; 64] {
-    match kind {
-        0 => random.bytes(64).try_into().expect("64 bytes"),
-        1 => std::array::from_fn(|_| random.below(64) as u8),
-        2 => std::array::from_fn(|_| random.below(5) as u8),
-        _ => {
-            let mut order = std::array::from_fn(|i| i as u8);
-            for i in 1..64 {
-                order.swap(i, random.below(i + 1));
-            }
-            order
-        }
-    }
-}
-
-/// Few numbers and links, so that they meet; masks from sparse to full.
-#[test]
-fn random_contents() {
-    let mut random = Random(6);
-    for n in 0..30_000 {
-        let sparse = |random: &mut Random| match n % 4 {
-            0 => random.next() & random.next() & random.next(),
-            1 => random.next() | random.next() | random.next(),
-            2 => 1 << random.below(64),
-            _ => random.next(),
-        };
-        let links = [3, 32, 256][n % 3];
-        let mut table = Table {
-            masks: std::array::from_fn(|_| sparse(&mut random)),
-            numbers: std::array::from_fn(|_| NUMBERS[random.below(8)]),
-            places: std::array::from_fn(|_| random.below(links) as u8),
-            order: any_order(&mut random, n / 12 % 4),
-        };
-        for _ in 0..8 {
-            compare(&mut random, &mut table);
-        }
-    }
 }

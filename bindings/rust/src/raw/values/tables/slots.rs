@@ -203,12 +203,13 @@ fn a_load_is_the_count_of_ones() {
 }
 
 #[test]
-fn a_refused_fresh_leaves_all_four_arrays() {
+fn a_refused_fresh_leaves_all_arrays() {
     let patterned = Table {
         masks: std::array::from_fn(|i| !(i as u64)),
         numbers: std::array::from_fn(|i| -(i as i64)),
         places: std::array::from_fn(|i| i as u8),
         order: std::array::from_fn(|i| 255 - i as u8),
+        times: std::array::from_fn(|i| u64::MAX - i as u64),
     };
     for before in [patterned, full(), asked(), EMPTY] {
         for first in [0, -1, i64::MIN] {

@@ -1,0 +1,2 @@
+-- The law that the proofs above cite.
+pub mod EventLaws

@@ -1,0 +1,2 @@
+-- Definitions of crate walk_events: the event format.
+pub mod Events
