@@ -12,7 +12,7 @@ use relay::{Arrival, Cipher, Invoke, Link, Message, Moment, NetPid, Settings, Si
 use std::hint::black_box;
 use std::time::Instant;
 
-const NOW: Moment = Moment { time: 1_700_000_000, in_flight: 1 };
+const NOW: Moment = Moment { time: 1_700_000_000 };
 const ROUNDS: usize = 41;
 /// A round's packets have some so many bytes.
 const STREAM: usize = 131_072;

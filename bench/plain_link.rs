@@ -1,4 +1,4 @@
-//! Receiving as a user would write it by hand: a server's link after its opening, without its Ping and Pong.
+//! Receiving as a user would write it by hand: a link after its opening, without its Ping and Pong.
 
 use super::RelayArrival;
 
@@ -6,8 +6,6 @@ use super::RelayArrival;
 pub struct Plain<const PADDED: bool> {
     gets: u32,
     closed: bool,
-    /// The client's fin came.
-    fin: bool,
 }
 
 impl<const PADDED: bool> Plain<PADDED> {
@@ -60,11 +58,6 @@ impl<const PADDED: bool> Plain<PADDED> {
         if bytes[length..used].iter().any(|&byte| byte != 0) {
             return Err(25);
         }
-        let is_fin = kind == 0x0b73_429e;
-        if self.fin && (is_fin || kind == 0x2374_df3d) {
-            return Err(28);
-        }
-        self.fin |= is_fin;
         self.gets = self.gets.wrapping_add(1);
         let (consumed, at) = (before + used, before + 12);
         Ok(RelayArrival { tag: 2, kind, consumed, at, len: length - 16, ..RelayArrival::default() })

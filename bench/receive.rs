@@ -35,7 +35,6 @@ struct Settings {
 #[derive(Clone, Copy)]
 struct Moment {
     time: u32,
-    inflight: u32,
 }
 
 #[repr(C)]
@@ -50,8 +49,6 @@ struct Link {
     awaits: bool,
     owes: bool,
     ciphered: bool,
-    ourfin: bool,
-    theirfin: bool,
     keyid: u32,
     sends: u32,
     gets: u32,
@@ -98,13 +95,10 @@ const BODY: usize = 1024;
 const WORDS: usize = 3;
 const ROUNDS: usize = 25;
 const TIME: u32 = 1_700_000_000;
-/// No rule heeds it at a server.
-const IN_FLIGHT: u32 = 0;
 
 impl Link {
     fn receive(&mut self, bytes: &[u8]) -> RelayArrival {
-        let moment = Moment { time: TIME, inflight: IN_FLIGHT };
-        unsafe { relay_receive(self, bytes.as_ptr(), bytes.len(), moment) }
+        unsafe { relay_receive(self, bytes.as_ptr(), bytes.len(), Moment { time: TIME }) }
     }
 
     /// What a send of the opening does to the link, as far as receiving sees it.
@@ -117,7 +111,7 @@ impl Link {
 /// The second program's answer in the fields of ours.
 fn second(link: &mut Second, bytes: &[u8]) -> RelayArrival {
     let none = RelayArrival::default();
-    match link.receive(bytes, TIME, IN_FLIGHT) {
+    match link.receive(bytes, TIME) {
         Err(refusal) => RelayArrival { refusal: refusal.number(), ..none },
         Ok(Received::Wait(more)) => RelayArrival { tag: 1, more, ..none },
         Ok(Received::Packet { packet_type, consumed, body: Span { at, len }, .. }) => {
@@ -135,9 +129,9 @@ fn opened(crc32c: bool, padded: bool, payload: &[u8]) -> (Link, Second, Vec<u8>)
     let mut ours = unsafe { relay_set_up(set) }.link;
     let mut buffer = vec![0; 2 * BODY];
     for step in [Outgoing::Nonce(TIME, [7; 16], [0; 32]), Outgoing::Handshake([1; 12], [2; 12])] {
-        let size = client.send(&step, &mut buffer, IN_FLIGHT).expect("the client's turn");
+        let size = client.send(&step, &mut buffer).expect("the client's turn");
         assert_eq!(ours.receive(&buffer[..size]), second(&mut server, &buffer[..size]));
-        let size = server.send(&step, &mut buffer, IN_FLIGHT).expect("the server's turn");
+        let size = server.send(&step, &mut buffer).expect("the server's turn");
         assert_eq!(second(&mut client, &buffer[..size]).tag, 2);
         ours.sent();
     }
@@ -145,7 +139,7 @@ fn opened(crc32c: bool, padded: bool, payload: &[u8]) -> (Link, Second, Vec<u8>)
     let invoke = Message::Invoke(Invoke { number: 77, actor: None, timeout: None, tl2: false, payload });
     let mut stream = Vec::new();
     for _ in 0..PACKETS {
-        let size = client.send(&Outgoing::Message(invoke), &mut buffer, IN_FLIGHT).expect("an open link");
+        let size = client.send(&Outgoing::Message(invoke), &mut buffer).expect("an open link");
         if padded {
             stream.extend([4, 0, 0, 0].repeat(WORDS));
         }

@@ -16,14 +16,13 @@ mod plain_crc;
 use plain_crc::{sliced, tables};
 
 const TIME: u32 = 1_700_000_000;
-const IN_FLIGHT: u32 = 1;
 const CALLS: usize = 2_000;
 const ROUNDS: usize = 41;
 const ROOM: usize = 2048;
 
 /// A client of ours and one of the second program, after the same opening.
 fn opened(crc32c: bool, padded: bool) -> (relay::Link, Second) {
-    let now = relay::Moment { time: TIME, in_flight: IN_FLIGHT };
+    let now = relay::Moment { time: TIME };
     let settings = relay::Settings::new(relay::Side::Client, crc32c).with_padded(padded);
     let mut ours = relay::Link::new(settings).expect("a link");
     let fresh = |side| Second::set_up(SecondSettings { padded, ..SecondSettings::new(side, crc32c) });
@@ -37,12 +36,12 @@ fn opened(crc32c: bool, padded: bool) -> (relay::Link, Second) {
             _ => (relay::ToSend::Handshake { sender: pid(0), peer: pid(0) }, Outgoing::Handshake([0; 12], [0; 12])),
         };
         let size = ours.send(&mut a, here, now).expect("our turn");
-        assert_eq!(second.send(&there, &mut b, IN_FLIGHT), Ok(size));
+        assert_eq!(second.send(&there, &mut b), Ok(size));
         assert_eq!(a, b);
-        server.receive(&a[..size], TIME, IN_FLIGHT).expect("a packet of the opening");
-        let size = server.send(&there, &mut b, IN_FLIGHT).expect("the server's turn");
+        server.receive(&a[..size], TIME).expect("a packet of the opening");
+        let size = server.send(&there, &mut b).expect("the server's turn");
         assert!(matches!(ours.receive(&b[..size], now), relay::Arrival::Packet { .. }));
-        second.receive(&b[..size], TIME, IN_FLIGHT).expect("a packet of the opening");
+        second.receive(&b[..size], TIME).expect("a packet of the opening");
     }
     (ours, second)
 }
@@ -55,17 +54,13 @@ fn invoke(payload: &[u8]) -> (relay::ToSend<'_>, Invoke<&[u8]>) {
     (relay::ToSend::Message(relay::Message::Invoke(ours)), other)
 }
 
-/// That invoke, as a user would write it by hand: a bound is checked once, and whether a fin has gone over.
+/// That invoke, as a user would write it by hand: a bound is checked once.
 fn plain<const PADDED: bool>(
     buffer: &mut [u8],
     number: u32,
-    fin: bool,
     invoke: &Invoke<&[u8]>,
     sum: impl Fn(&[u8]) -> u32,
 ) -> Option<usize> {
-    if fin {
-        return None;
-    }
     let length = 12 + 8 + 20 + invoke.payload.len() + 4;
     let size = if PADDED { length.next_multiple_of(4) } else { length };
     let (packet, zeros) = buffer.get_mut(..size)?.split_at_mut(length);
@@ -129,7 +124,7 @@ fn print(name: &str, rounds: &[Vec<f64>], places: usize) {
 }
 
 fn measure<const PADDED: bool>(name: &str, crc32c: bool, payload: &[u8]) {
-    let now = relay::Moment { time: TIME, in_flight: IN_FLIGHT };
+    let now = relay::Moment { time: TIME };
     let (mut ours, mut second) = opened(crc32c, PADDED);
     let tables = tables(if crc32c { 0x82F6_3B78 } else { 0xEDB8_8320 });
     let (here, there) = invoke(payload);
@@ -138,8 +133,8 @@ fn measure<const PADDED: bool>(name: &str, crc32c: bool, payload: &[u8]) {
     let mut number = 0u32;
     for _ in 0..100 {
         let size = ours.send(&mut a, here, now).expect("an open link");
-        assert_eq!(second.send(&message, &mut b, IN_FLIGHT), Ok(size));
-        assert_eq!(plain::<PADDED>(&mut c, number, false, &there, |s| sliced(&tables, s)), Some(size));
+        assert_eq!(second.send(&message, &mut b), Ok(size));
+        assert_eq!(plain::<PADDED>(&mut c, number, &there, |s| sliced(&tables, s)), Some(size));
         assert!(a == b && a == c);
         number += 1;
     }
@@ -147,20 +142,19 @@ fn measure<const PADDED: bool>(name: &str, crc32c: bool, payload: &[u8]) {
     let mut plain = || {
         time(|| {
             number = number.wrapping_add(1);
-            let fin = black_box(false);
-            plain::<PADDED>(black_box(&mut c), number, fin, black_box(&there), |s| sliced(&tables, s)).expect("room")
+            plain::<PADDED>(black_box(&mut c), number, black_box(&there), |s| sliced(&tables, s)).expect("room")
         })
     };
-    let mut second = || time(|| second.send(black_box(&message), &mut b, IN_FLIGHT).expect("an open link"));
+    let mut second = || time(|| second.send(black_box(&message), &mut b).expect("an open link"));
     print(name, &rounds(&mut [&mut ours, &mut second, &mut plain]), 0);
 }
 
 fn measure_flush() {
     let (mut link, mut second) = opened(true, true);
     let (mut a, mut b, mut c) = ([0; 16], [0; 16], [0; 16]);
-    let now = relay::Moment { time: TIME, in_flight: IN_FLIGHT };
+    let now = relay::Moment { time: TIME };
     let wrote = 44 + link.send(&mut [0; 24], relay::ToSend::Ping { id: 1 }, now).expect("an open link");
-    second.send(&Outgoing::Ping(1), &mut [0; 24], IN_FLIGHT).expect("an open link");
+    second.send(&Outgoing::Ping(1), &mut [0; 24]).expect("an open link");
     assert_eq!(link.clone().flush(&mut a), Ok(12));
     assert_eq!(second.clone().flush(&mut b), Ok(12));
     assert_eq!(plain_flush(&mut c, wrote), Some(12));

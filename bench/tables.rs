@@ -4,8 +4,7 @@
 //! First mixed traffic, beside one hash map keyed by publisher and number. It keeps no rule of room, does not look
 //! whether a front number is in flight, and walks over all requests for a cancel or a gone peer. Then pairs of calls
 //! at a number of requests in flight, beside two hash maps that keep every rule (two_maps.rs, pairs.rs), and gone peers
-//! and deadlines beside those and the second program (gone.rs, deadlines.rs; filled.rs has what both share), and so the
-//! mark of a finishing publisher and a load (finishing.rs).
+//! and deadlines beside those and the second program (gone.rs, deadlines.rs; filled.rs has what both share).
 //!
 //! The library, the second program and the two hash maps give the same answers, which is checked first.
 
@@ -25,8 +24,6 @@ use std::time::Instant;
 mod deadlines;
 #[path = "filled.rs"]
 mod filled;
-#[path = "finishing.rs"]
-mod finishing;
 #[path = "gone.rs"]
 mod gone;
 #[path = "pairs.rs"]
@@ -69,7 +66,6 @@ fn ours(table: &mut Table, event: Event, ends: &mut [i64]) -> Answer {
             Ok(ends) => (ends.len() as i64, ends.map(|(link, n)| i64::from(link) ^ n.0).sum()),
             Err(refusal) => refused(refusal),
         },
-        Event::Finish(publisher) => table.finish(publisher).map_or_else(refused, |()| (0, 0)),
     }
 }
 
@@ -91,7 +87,6 @@ fn second(table: &mut Second, event: Event, ends: &mut [i64]) -> Answer {
         Ok(Ask(number)) => (number, 0),
         Ok(Reply((place, number)) | Cancel((place, number))) => (i64::from(place), number),
         Ok(Gone(_, count) | RunOut(count)) => summed(count, ends),
-        Ok(Finish) => (0, 0),
         Err(refusal) => (-i64::from(refusal.number()), 0),
     }
 }
@@ -113,7 +108,6 @@ fn by_maps(table: &mut TwoMaps, event: Event, ends: &mut [i64]) -> Answer {
             table.ask_by(link, number, publisher, time, timeout).map_or_else(refused, |number| (number, 0))
         }
         Event::RunOut(time) => table.run_out(time, ends).map_or_else(refused, |count| summed(count, ends)),
-        Event::Finish(publisher) => table.finish(publisher).map_or_else(refused, |()| (0, 0)),
     }
 }
 
@@ -125,8 +119,8 @@ struct Plain {
 
 fn plain(table: &mut Plain, event: Event) -> Answer {
     match event {
-        // It knows no deadlines and no finishing publishers, and the mixed traffic has neither.
-        Event::RunOut(_) | Event::Finish(_) => (0, 0),
+        // It knows no deadlines, and the mixed traffic has none.
+        Event::RunOut(_) => (0, 0),
         Event::Ask(link, number, publisher) | Event::AskBy(link, number, publisher, ..) => {
             let Some(last) = table.last.get_mut(usize::from(publisher)) else { return (-30, 0) };
             *last += 1;
@@ -188,14 +182,8 @@ fn check(first: i64) {
         let mut other = Second::fresh(first).expect("a first number");
         let mut maps = TwoMaps::new(first).expect("a first number");
         let mut traffic = Traffic::new(generator.draw(), profile);
-        for n in 0..EVENTS {
-            // The traffic has none: each publisher in turn finishes for a while, and is lost.
-            let publisher = (n / 500 % 8) as u8;
-            let event = match n % 500 {
-                100 => Event::Finish(publisher),
-                140 => Event::Gone(Side::Publisher, publisher),
-                _ => traffic.event(&other),
-            };
+        for _ in 0..EVENTS {
+            let event = traffic.event(&other);
             let room = generator.pick(&[ALL_ENDS, ALL_ENDS, ALL_ENDS, 16, 3, 0]);
             let mut ends = [[-1; ALL_ENDS]; 3];
             let answers = [
@@ -205,8 +193,6 @@ fn check(first: i64) {
             ];
             assert_eq!((answers[0], ends[0]), (answers[1], ends[1]), "{event:?}");
             assert_eq!((answers[0], ends[0]), (answers[2], ends[2]), "{event:?}");
-            let loads = (table.load(publisher).ok(), other.load(publisher).ok(), maps.load(publisher).ok());
-            assert!(loads.0 == loads.1 && loads.0 == loads.2, "{loads:?}");
         }
     }
 }
@@ -244,5 +230,4 @@ fn main() {
     pairs::print(Freed::Random, true);
     gone::print();
     deadlines::print();
-    finishing::print();
 }

@@ -1,7 +1,7 @@
 //! A table of requests as one would write it by hand who keeps every rule: a hash map by each end of a request,
-//! a sorted map of deadlines, eight loads, eight last numbers and eight marks. It refuses as the library does, in the
-//! same order, and searches a hash map twice nowhere. (A heap would leave the deadlines of answered requests behind, and
-//! could not count those that have come before it takes them out.)
+//! a sorted map of deadlines, eight loads and eight last numbers. It refuses as the library does, in the same order,
+//! and searches a hash map twice nowhere. (A heap would leave the deadlines of answered requests behind, and could not
+//! count those that have come before it takes them out.)
 
 use std::collections::hash_map::Entry;
 use std::collections::{BTreeMap, HashMap};
@@ -28,8 +28,6 @@ pub struct TwoMaps {
     accepted: u64,
     /// The latest time seen.
     latest: u64,
-    /// Which publishers are finishing.
-    finishing: [bool; 8],
 }
 
 fn after(number: i64) -> i64 {
@@ -49,7 +47,6 @@ impl TwoMaps {
             last: [first - 1; 8],
             accepted: 0,
             latest: 0,
-            finishing: [false; 8],
         })
     }
 
@@ -79,9 +76,6 @@ impl TwoMaps {
         }
         let Entry::Vacant(place) = self.by_front.entry((link, number)) else { return Err(31) };
         let p = usize::from(publisher);
-        if self.finishing[p] {
-            return Err(27);
-        }
         if self.loads[p] == 16 {
             return Err(32);
         }
@@ -146,11 +140,7 @@ impl TwoMaps {
     /// The publisher of this number is lost, or the front link closed.
     pub fn gone(&mut self, publisher: bool, number: u8, out: &mut [i64]) -> Result<usize, u8> {
         match publisher {
-            true if number < 8 => {
-                let count = self.free(|_, key| key.0 == number, |front, _| front, out)?;
-                self.finishing[usize::from(number)] = false;
-                Ok(count)
-            }
+            true if number < 8 => self.free(|_, key| key.0 == number, |front, _| front, out),
             false if number < 32 => self.free(|front, _| front.0 == number, |_, publisher| publisher, out),
             _ => Err(30),
         }
@@ -178,16 +168,6 @@ impl TwoMaps {
             }
         }
         Ok(gone.len())
-    }
-
-    /// The publisher gets no new request until it is lost.
-    pub fn finish(&mut self, publisher: u8) -> Result<(), u8> {
-        *self.finishing.get_mut(usize::from(publisher)).ok_or(30)? = true;
-        Ok(())
-    }
-
-    pub fn load(&self, publisher: u8) -> Result<usize, u8> {
-        self.loads.get(usize::from(publisher)).copied().ok_or(30)
     }
 
     /// Frees the requests whose deadline has come, and writes their front ends, oldest first.

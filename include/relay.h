@@ -48,10 +48,6 @@ enum {
     RELAY_VERSION_TOO_OLD = 24,         /* a Nonce's version is below the link's lowest */
     RELAY_PADDING_NOT_ZERO = 25,        /* a byte of the padding behind a packet is not 0 */
     RELAY_FOURTH_WORD = 26,             /* a fourth word of 4 before a packet */
-    RELAY_PUBLISHER_FINISHING = 27,     /* the publisher is finishing: it gets no new request */
-    RELAY_RECEIVED_AFTER_FIN = 28,      /* an invoke came after client fin, or a fin came twice */
-    RELAY_SENT_AFTER_FIN = 29,          /* an invoke is to be sent after either fin, a fin twice, or client fin with
-                                           nothing in flight */
     RELAY_OUT_OF_RANGE = 30,            /* a link, publisher, first number, time or lowest version is out of range, or a
                                            derivation's version is above 2 */
     RELAY_IN_FLIGHT_ALREADY = 31,       /* the link has a request in flight with this number */
@@ -147,18 +143,9 @@ typedef struct relay_settings {
  * who can change them under way can have two links that are set to either go clear, or speak an older version. A link
  * that must be ciphered is set to cipher only, and for forward secrecy with lowest 2. */
 
-/* What the caller gives with each call.
- *
- *     inflight MUST BE FILLED ON EVERY CLIENT'S LINK, for each send and each receive. Left at 0, as an initialiser
- *     leaves what it does not name, it says "nothing is in flight": then a server fin CLOSES the link, though answers
- *     are under way, and client fin is refused with 29. A program from before this member compiles as it is, and has
- *     just that fault.
- *
- * On a publisher's link it is that publisher's load: relay_load of the table, just before the call (an invoke that is
- * to be sent was asked before, and counts). At a server no rule heeds it, and 0 is right. */
+/* What the caller gives with each call. */
 typedef struct relay_moment {
-    uint32_t time;     /* our time, in seconds */
-    uint32_t inflight; /* how many requests that we sent over this link are unanswered */
+    uint32_t time; /* our time, in seconds */
 } relay_moment;
 
 /* A link's state: made by relay_set_up or relay_set_up_with_key, lent to each call, and updated where it stands. Only
@@ -173,8 +160,6 @@ typedef struct relay_link {
     bool awaits;      /* a Ping of ours is unanswered */
     bool owes;        /* we owe a Pong */
     bool ciphered;    /* the Nonces chose the cipher: from the Handshakes on the driver ciphers (see below) */
-    bool ourfin;      /* we sent our fin: a client's client fin, a server's server fin */
-    bool theirfin;    /* the fin that is meant for our side came (the closing conversation: see below) */
     uint32_t keyid;   /* the first four bytes, as a little-endian number, of the key that the link was set up with, or
                          0: all that a link keeps of a key */
     uint32_t sends;   /* the next packet's number, of each direction */
@@ -216,12 +201,10 @@ typedef struct relay_arrival {
     size_t at, len;  /* its body: len bytes from byte at on */
 } relay_arrival;
 
-/* The packet at the front of the bytes, how many bytes it lacks, or why it is refused. Refusals 1 to 10, 17, 21, 24 to
- * 26 and 28 close the link; 20, 22 and an incomplete packet leave it as it was. One packet that is not refused closes
- * it: server fin at a client with nothing in flight. It is answered as a packet, link.closed is true behind it, and
- * every call after it is refused with 20. On a padded link the longest packet takes 16,777,228 bytes with its words and
- * zeros, and words with no packet behind them are an incomplete one: the driver keeps them, as it keeps those that a
- * client flushed behind its Handshake while the server's is not sent yet (22). */
+/* The packet at the front of the bytes, how many bytes it lacks, or why it is refused. Refusals 1 to 10, 17, 21 and 24
+ * to 26 close the link; 20, 22 and an incomplete packet leave it as it was. On a padded link the longest packet takes
+ * 16,777,228 bytes with its words and zeros, and words with no packet behind them are an incomplete one: the driver
+ * keeps them, as it keeps those that a client flushed behind its Handshake while the server's is not sent yet (22). */
 relay_arrival relay_receive(relay_link *link, const uint8_t *bytes, size_t n, relay_moment moment);
 
 /* A part of the lent bytes. */
@@ -288,8 +271,7 @@ typedef struct relay_sent {
 } relay_sent;
 
 /* Writes a packet at the front of buf; bytes past it stay. After a refusal the link and every byte of buf are as
- * before. payload is what an invoke or result carries, or an error's text. A Nonce bears moment's time. Where
- * several refusals apply, the answer is the first of 20, 22, 5, 21, 19, 29, 12, 15, 2 and 16. */
+ * before. payload is what an invoke or result carries, or an error's text. A Nonce bears moment's time. */
 relay_sent relay_send(relay_link *link, uint8_t *buf, size_t room, const uint8_t *payload, size_t n,
                       relay_outgoing outgoing, relay_moment moment);
 
@@ -301,38 +283,6 @@ relay_sent relay_send(relay_link *link, uint8_t *buf, size_t room, const uint8_t
  * enciphered. The cipher takes whole blocks of 16 bytes only. The words go out behind that packet, like a packet. A
  * padded link that is not ciphered is read whether it is flushed or not. A flush that is not needed writes nothing. */
 relay_sent relay_flush(relay_link *link, uint8_t *buf, size_t room);
-
-/* ---- The closing conversation: how a link ends without an error ----
- *
- * A link that is just cut off loses what is under way on it. So a server that is to stop says so, and the client hangs
- * up when it has all its answers. A fin is known by its type, whatever its body.
- *
- * A server's order of calls, on each of its links:
- *
- *   1. Take no new connections; on one whose opening is not over there is nothing to finish.
- *   2. relay_send of a RELAY_SERVER_FIN, once: a second one is refused with 29.
- *   3. Go on as ever: receive, answer every request, Ping and Pong. Requests that were under way may still come. After
- *      the client's RELAY_CLIENT_FIN none does: relay_receive refuses one with 28, and a second client fin too, and
- *      closes the link.
- *   4. Wait until the client hangs up; the server does so only if that takes too long. A client fin may come without
- *      2, too, since a client may begin by itself: then 3 and 4 are all there is to do.
- *
- * A client's, on a publisher's link, with the load of that publisher in moment.inflight at each call:
- *
- *   1. relay_receive answers a packet of type RELAY_SERVER_FIN. (A second one is refused with 28 and closes the link.)
- *   2. relay_finish of the publisher: relay_ask refuses requests for it from now on, with 27. The link refuses to send
- *      an invoke too, with 29.
- *   3. If link.closed is true, nothing was in flight and all is done: nothing is sent, go to 6. (What was written and
- *      not flushed by then cannot be flushed any more: on a padded or ciphered link a driver with nothing in flight
- *      flushes what it wrote before it receives.)
- *   4. Else relay_send of a RELAY_CLIENT_FIN, once: a second one is refused with 29, and so is one with nothing in
- *      flight. Cancels may still be sent.
- *   5. Go on receiving: the answers, Pings and Pongs. No answer closes the link, not even the last. When relay_load of
- *      the publisher is 0, all answers are in.
- *   6. Hang up, and relay_gone of the publisher: it frees nothing then, and the publisher is no longer finishing. When
- *      the link to it has opened again, it may be asked again.
- *
- * A client that is to stop begins with 2, and with 4 where something is in flight, else with 6. */
 
 /* ---- A ciphered link, from its set-up on ----
  *
@@ -489,8 +439,7 @@ typedef struct relay_table {
                              ones are its load */
     int64_t numbers[136]; /* i: the front number in slot i; 64 + i: its publisher number; 128 + p: from where on
                              publisher p's next number is looked for */
-    uint8_t places[136];  /* i: the link in slot i; 64 + i: its publisher; 128 + p: whether publisher p is finishing,
-                             where 0 is no */
+    uint8_t places[128];  /* i: the link in slot i; 64 + i: its publisher */
     uint8_t order[64];    /* i: slot i's place in the order of acceptance, 0 the oldest. What a slot that is not used
                              has here, in numbers, in places and in times means nothing */
     uint64_t times[65];   /* i: the deadline of the request in slot i, 0 for none; 64: the latest time seen */
@@ -542,34 +491,26 @@ typedef struct relay_dropped {
     size_t count;
 } relay_dropped;
 
-typedef struct relay_load_answer {
-    uint8_t refusal;
-    size_t load;
-} relay_load_answer;
-
 /* What the archive has: the same calls on the members of one table, each lent by itself. A program has no use for them;
  * it makes the calls below, which lend a table's members where they stand and copy none. */
-uint8_t relay_fresh_lent(uint64_t masks[9], int64_t numbers[136], uint8_t places[136], uint64_t times[65],
-                         relay_publisher_number first);
-relay_asked relay_ask_lent(uint64_t masks[9], int64_t numbers[136], uint8_t places[136], uint8_t order[64],
+uint8_t relay_fresh_lent(uint64_t masks[9], int64_t numbers[136], uint64_t times[65], relay_publisher_number first);
+relay_asked relay_ask_lent(uint64_t masks[9], int64_t numbers[136], uint8_t places[128], uint8_t order[64],
                            uint64_t times[65], uint8_t link, relay_front_number number, uint8_t publisher,
                            uint64_t time, uint32_t timeout);
-relay_replied relay_reply_lent(uint64_t masks[9], const int64_t numbers[136], const uint8_t places[136],
+relay_replied relay_reply_lent(uint64_t masks[9], const int64_t numbers[136], const uint8_t places[128],
                                uint8_t order[64], uint8_t publisher, relay_publisher_number number);
-relay_cancelled relay_cancel_lent(uint64_t masks[9], const int64_t numbers[136], const uint8_t places[136],
+relay_cancelled relay_cancel_lent(uint64_t masks[9], const int64_t numbers[136], const uint8_t places[128],
                                   uint8_t order[64], uint8_t link, relay_front_number number);
-relay_dropped relay_gone_lent(uint64_t masks[9], const int64_t numbers[136], uint8_t places[136], uint8_t order[64],
-                              bool publisher, uint8_t number, int64_t *out, size_t n);
-relay_dropped relay_run_out_lent(uint64_t masks[9], const int64_t numbers[136], const uint8_t places[136],
+relay_dropped relay_gone_lent(uint64_t masks[9], const int64_t numbers[136], const uint8_t places[128],
+                              uint8_t order[64], bool publisher, uint8_t number, int64_t *out, size_t n);
+relay_dropped relay_run_out_lent(uint64_t masks[9], const int64_t numbers[136], const uint8_t places[128],
                                  uint8_t order[64], uint64_t times[65], uint64_t time, int64_t *out, size_t n);
-uint8_t relay_finish_lent(uint8_t places[136], uint8_t publisher);
-relay_load_answer relay_load_lent(const uint64_t masks[9], uint8_t publisher);
 
-/* Makes an empty table of whatever stands there; first is the first number of every publisher. It has seen the time 0,
- * and no publisher is finishing. Answers 0, or 30 for a first number below 1: all members are then as they were, and
- * what was no table before must not be used. */
+/* Makes an empty table of whatever stands there; first is the first number of every publisher. It has seen the time 0.
+ * Answers 0, or 30 for a first number below 1: all members are then as they were, and what was no table before must not
+ * be used. */
 static inline uint8_t relay_fresh(relay_table *table, relay_publisher_number first) {
-    return relay_fresh_lent(table->masks, table->numbers, table->places, table->times, first);
+    return relay_fresh_lent(table->masks, table->numbers, table->times, first);
 }
 
 /* Times and deadlines. The caller brings the present time, in milliseconds of any one clock, below 2^62: since a start,
@@ -584,8 +525,8 @@ static inline uint8_t relay_fresh(relay_table *table, relay_publisher_number fir
 /* Accepts a request with a deadline: time is the present time, timeout in milliseconds; a timeout of 0 is none, and the
  * request has no deadline. Answers the number under which the publisher gets it, which is none that the publisher has
  * in flight. Refused with 30 for a link or publisher out of range or a time of 2^62 or more, 12 for a number of 0, 31
- * where the link has the number in flight, 27 where the publisher is finishing (relay_finish), 32 where it has 16
- * requests, and 33 where it has 4 or more and no room is left that is not kept for the 4 of another. */
+ * where the link has the number in flight, 32 where the publisher has 16 requests, and 33 where it has 4 or more and no
+ * room is left that is not kept for the 4 of another. */
 static inline relay_asked relay_ask_by(relay_table *table, uint8_t link, relay_front_number number, uint8_t publisher,
                                        uint64_t time, uint32_t timeout) {
     return relay_ask_lent(table->masks, table->numbers, table->places, table->order, table->times, link, number,
@@ -616,7 +557,7 @@ static inline relay_cancelled relay_cancel(relay_table *table, uint8_t link, rel
  *     relay_gone(&table, relay_publisher(publisher), out, n)   a publisher is lost: link and front number
  *
  * Refused with 30 for a link over 31 or a publisher over 7, and 16 where out, n numbers long, has not two for each:
- * RELAY_ALL_ENDS always do. The numbers of a lost publisher go on where they were, and it is no longer finishing. */
+ * RELAY_ALL_ENDS always do. The numbers of a lost publisher go on where they were. */
 static inline relay_dropped relay_gone(relay_table *table, relay_peer peer, int64_t *out, size_t n) {
     return relay_gone_lent(table->masks, table->numbers, table->places, table->order, peer.publisher, peer.number, out,
                            n);
@@ -636,20 +577,6 @@ static inline relay_dropped relay_gone(relay_table *table, relay_peer peer, int6
  */
 static inline relay_dropped relay_run_out(relay_table *table, uint64_t time, int64_t *out, size_t n) {
     return relay_run_out_lent(table->masks, table->numbers, table->places, table->order, table->times, time, out, n);
-}
-
-/* A publisher is finishing, since its server fin came or since we end the link ourselves: it gets no new request, and
- * those in flight stay, may be replied to, cancelled and run out, and count as its load. A publisher that is finishing
- * already stays so. It ends when relay_gone of that publisher is next accepted, not refused with 16. Answers 0, or 30
- * for a publisher out of range. */
-static inline uint8_t relay_finish(relay_table *table, uint8_t publisher) {
-    return relay_finish_lent(table->places, publisher);
-}
-
-/* How many requests a publisher has in flight: the inflight of each relay_moment on its link. Refused with 30 for a
- * publisher out of range. */
-static inline relay_load_answer relay_load(const relay_table *table, uint8_t publisher) {
-    return relay_load_lent(table->masks, publisher);
 }
 
 #ifdef __cplusplus

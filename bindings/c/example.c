@@ -1,27 +1,22 @@
 /* A front end and a relay in one process: they open a link, the front end invokes, the relay takes the request into its
- * table; at last a relay and a publisher that restarts end their link without an error. Bytes go from one to the other
- * through a buffer, where a program has a socket.
+ * table. Bytes go from one to the other through a buffer, where a program has a socket.
  *
  *     cc -I include bindings/c/example.c build/librelay.a -o example */
 #include "relay.h"
 #include <stdio.h>
 #include <stdlib.h>
 
-/* With so many requests in flight on the link, by the client's count; a server heeds none. */
-static relay_moment now(size_t inflight) {
-    relay_moment moment = {.time = 1700000000, .inflight = (uint32_t)inflight};
-    return moment;
-}
+static const relay_moment now = {1700000000};
 
 /* Sends from one link and receives at the other; the packet's body stands in buf where the part says. */
 static relay_part pass(relay_link *from, relay_link *to, relay_outgoing what, const char *payload, size_t n,
-                       uint8_t *buf, size_t room, relay_moment moment) {
-    relay_sent sent = relay_send(from, buf, room, (const uint8_t *)payload, n, what, moment);
+                       uint8_t *buf, size_t room) {
+    relay_sent sent = relay_send(from, buf, room, (const uint8_t *)payload, n, what, now);
     if (sent.refusal != 0) {
         printf("not sent: %d\n", sent.refusal);
         exit(1);
     }
-    relay_arrival arrival = relay_receive(to, buf, sent.size, moment);
+    relay_arrival arrival = relay_receive(to, buf, sent.size, now);
     if (arrival.tag != RELAY_ARRIVAL_PACKET) {
         printf("not received: %d\n", arrival.refusal);
         exit(1);
@@ -79,73 +74,28 @@ static int requests(relay_front_number number) {
     return 0;
 }
 
-/* Two links, opened. */
-static void open_links(relay_link *client, relay_link *server) {
-    relay_settings ours = {.server = false, .allows = true}, theirs = {.server = true, .allows = true};
-    *client = relay_set_up(ours).link;
-    *server = relay_set_up(theirs).link;
-    relay_outgoing nonce = {0}, handshake = {0};
+int main(void) {
+    relay_settings client = {.server = false, .allows = true}, server = {.server = true, .allows = true};
+    relay_link front = relay_set_up(client).link, ours = relay_set_up(server).link;
+    uint8_t buf[256];
+
+    relay_outgoing nonce = {0}, handshake = {0}, invoke = {0};
     nonce.kind = RELAY_NONCE; /* and 16 random bytes, in earnest */
     handshake.kind = RELAY_HANDSHAKE;
-    uint8_t buf[256];
-    pass(client, server, nonce, "", 0, buf, sizeof buf, now(0));
-    pass(server, client, nonce, "", 0, buf, sizeof buf, now(0));
-    pass(client, server, handshake, "", 0, buf, sizeof buf, now(0));
-    pass(server, client, handshake, "", 0, buf, sizeof buf, now(0));
-}
+    pass(&front, &ours, nonce, "", 0, buf, sizeof buf);
+    pass(&ours, &front, nonce, "", 0, buf, sizeof buf);
+    pass(&front, &ours, handshake, "", 0, buf, sizeof buf);
+    pass(&ours, &front, handshake, "", 0, buf, sizeof buf);
 
-/* Publisher 0 restarts while a request is in flight: the closing conversation, from the relay's end, a client. */
-static void restart(relay_front_number number) {
-    relay_link ours, publisher;
-    open_links(&ours, &publisher);
-    relay_publisher_number first = {1};
-    relay_table table;
-    relay_fresh(&table, first);
-    uint8_t buf[256];
-    relay_outgoing invoke = {0}, server_fin = {0}, client_fin = {0}, result = {0};
-    invoke.kind = RELAY_INVOKE;
-    server_fin.kind = RELAY_SERVER_FIN;
-    client_fin.kind = RELAY_CLIENT_FIN;
-    result.kind = RELAY_RESULT;
-    relay_publisher_number asked = relay_ask(&table, 3, number, 0).number;
-    invoke.number = result.number = asked.value;
-    pass(&ours, &publisher, invoke, "page 2", 6, buf, sizeof buf, now(relay_load(&table, 0).load));
-
-    pass(&publisher, &ours, server_fin, "", 0, buf, sizeof buf, now(relay_load(&table, 0).load));
-    relay_finish(&table, 0);
-    relay_front_number next = {number.value + 1};
-    printf("publisher 0 finishes: %s, a new request is refused with %d\n", ours.closed ? "closed" : "open",
-           relay_ask(&table, 3, next, 0).refusal);
-    pass(&ours, &publisher, client_fin, "", 0, buf, sizeof buf, now(relay_load(&table, 0).load));
-    pass(&publisher, &ours, result, "the page", 8, buf, sizeof buf, now(relay_load(&table, 0).load));
-    relay_reply(&table, 0, asked);
-    printf("its last answer is in: %d in flight\n", (int)relay_load(&table, 0).load);
-    gone(&table, relay_publisher(0)); /* hung up, and nobody is told of an error */
-    printf("and when it is back: refused with %d\n", relay_ask(&table, 3, next, 0).refusal);
-
-    open_links(&ours, &publisher);
-    pass(&publisher, &ours, server_fin, "", 0, buf, sizeof buf, now(0));
-    printf("with nothing in flight: %s\n", ours.closed ? "closed" : "open");
-}
-
-int main(void) {
-    relay_link front, ours;
-    open_links(&front, &ours);
-    uint8_t buf[256];
-    relay_outgoing invoke = {0};
     invoke.kind = RELAY_INVOKE;
     invoke.number = 77;
     invoke.hasactor = true;
     invoke.actor = -5;
-    relay_part body = pass(&front, &ours, invoke, "page 1", 6, buf, sizeof buf, now(0));
+    relay_part body = pass(&front, &ours, invoke, "page 1", 6, buf, sizeof buf);
     relay_message message = relay_read_message(true, RELAY_INVOKE, buf + body.at, body.len);
     printf("kind %d, number %lld, actor %lld, payload %.*s\n", message.kind, (long long)message.number,
            (long long)message.actor, (int)message.len, (const char *)buf + body.at + message.at);
 
     relay_front_number number = {message.number};
-    if (requests(number) != 0) {
-        return 1;
-    }
-    restart(number);
-    return 0;
+    return requests(number);
 }

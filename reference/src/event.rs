@@ -19,8 +19,6 @@ pub enum Event {
     AskBy(u8, i64, u8, u64, u32),
     /// Time.
     RunOut(u64),
-    /// Publisher.
-    Finish(u8),
 }
 
 /// What the table hands back; a gone peer gives its side and a count, a run-out
@@ -32,7 +30,6 @@ pub enum Answer {
     Cancel(End),
     Gone(Side, usize),
     RunOut(usize),
-    Finish,
 }
 
 const LONGEST_BODY: usize = 22;
@@ -41,7 +38,7 @@ fn body_length(kind: u8) -> Option<usize> {
     match kind {
         1 => Some(10),
         2 | 3 => Some(9),
-        4 | 5 | 8 => Some(1),
+        4 | 5 => Some(1),
         6 => Some(22),
         7 => Some(8),
         _ => None,
@@ -80,8 +77,7 @@ impl Event {
                 let (time, timeout) = (read_u64(body, 10), read_u32(body, 18));
                 Event::AskBy(body[0], number, body[9], time, timeout)
             }
-            7 => Event::RunOut(read_u64(body, 0)),
-            _ => Event::Finish(body[0]),
+            _ => Event::RunOut(read_u64(body, 0)),
         }
     }
 
@@ -108,7 +104,6 @@ impl Event {
                 bytes.push(7);
                 bytes.extend(time.to_le_bytes());
             }
-            Event::Finish(publisher) => put(8, publisher, &[]),
         }
     }
 
@@ -129,7 +124,6 @@ impl Event {
                 accepted.map(Answer::Ask)
             }
             Event::RunOut(time) => table.run_out(time, ends).map(Answer::RunOut),
-            Event::Finish(publisher) => table.finish(publisher).map(|()| Answer::Finish),
         }
     }
 }
@@ -138,7 +132,7 @@ impl Event {
 mod tests {
     use super::*;
 
-    const EVENTS: [Event; 8] = [
+    const EVENTS: [Event; 7] = [
         Event::Ask(3, i64::MIN, 7),
         Event::Reply(255, 0x0102_0304_0506_0708),
         Event::Cancel(0, -2),
@@ -146,7 +140,6 @@ mod tests {
         Event::Gone(Side::Publisher, 8),
         Event::AskBy(31, -2, 7, 0x0102_0304_0506_0708, 0x8090_A0B0),
         Event::RunOut(0xF1F2_F3F4_F5F6_F7F8),
-        Event::Finish(7),
     ];
 
     #[test]
@@ -172,7 +165,6 @@ mod tests {
         );
         let run_out = [7, 0xf8, 0xf7, 0xf6, 0xf5, 0xf4, 0xf3, 0xf2, 0xf1];
         assert_eq!(bytes_of(EVENTS[6]), run_out);
-        assert_eq!(bytes_of(EVENTS[7]), [8, 7]);
     }
 
     #[test]
@@ -196,7 +188,7 @@ mod tests {
                 assert_eq!(read, Some(Err(Refusal::BadEvent)));
             }
         }
-        for kind in (0..=0).chain(9..=255) {
+        for kind in (0..=0).chain(8..=255) {
             let read = Event::read(&mut &[kind; 40][..]).unwrap();
             assert_eq!(read, Some(Err(Refusal::BadEvent)));
         }

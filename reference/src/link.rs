@@ -2,7 +2,6 @@
 //! receiving and the sending of packets ask of it.
 
 mod choice;
-mod fins;
 mod key;
 mod nonce_fields;
 mod opening;
@@ -16,7 +15,6 @@ mod tests;
 use crate::checksum::{Polynomial, CRC32, CRC32C};
 use crate::message::{Message, Side, Span};
 use crate::refusal::Refusal;
-use fins::Fins;
 use opening::Stage;
 use packet::{HANDSHAKE, NONCE, PING, PONG};
 
@@ -81,7 +79,6 @@ pub struct Link {
     key_id: [u8; 4],
     /// The Nonces chose the cipher.
     ciphered: bool,
-    fins: Fins,
     closed: bool,
 }
 
@@ -107,10 +104,6 @@ pub struct State {
     pub key_id: [u8; 4],
     /// The cipher was chosen, which their Nonce decides; false before it.
     pub ciphered: bool,
-    /// It sent the fin of its own side.
-    pub fin_sent: bool,
-    /// It received the fin that is meant for its side.
-    pub fin_received: bool,
 }
 
 #[derive(Clone, Copy, Debug, PartialEq, Eq)]
@@ -184,7 +177,6 @@ impl Link {
             since_handshake: 0,
             key_id: [0; 4],
             ciphered: false,
-            fins: Fins::default(),
             closed: false,
         }
     }
@@ -212,8 +204,6 @@ impl Link {
             since_handshake: self.since_handshake,
             key_id: self.key_id,
             ciphered: self.ciphered,
-            fin_sent: self.fins.sent,
-            fin_received: self.fins.received,
         }
     }
 

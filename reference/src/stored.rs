@@ -28,7 +28,6 @@ mod link_ciphered_random;
 mod link_ciphered_set_ups;
 mod link_ciphered_stream;
 mod link_closing;
-mod link_fins;
 mod link_fronts;
 mod link_openings;
 mod link_padded;
@@ -58,7 +57,6 @@ mod message_zero_writes;
 mod records;
 mod walk_cases;
 mod walk_crowd;
-mod walk_fins;
 mod walk_gone;
 #[cfg(test)]
 mod walk_lines;

@@ -92,8 +92,6 @@ pub struct Table {
     accepted: u64,
     /// Of all times that calls which were not refused have brought.
     latest_time: u64,
-    /// Which publishers get no more requests (document 02, A6).
-    finishing: [bool; PUBLISHERS as usize],
 }
 
 impl Table {
@@ -111,7 +109,6 @@ impl Table {
             next: [first; PUBLISHERS as usize],
             accepted: 0,
             latest_time: 0,
-            finishing: [false; PUBLISHERS as usize],
         })
     }
 
@@ -158,35 +155,11 @@ impl Table {
 
     /// Frees all requests of the peer with this number on its side, oldest
     /// accepted first; writes their ends on the other side, and hands back how
-    /// many they were. A publisher that is gone is no longer finishing.
+    /// many they were.
     pub fn gone(&mut self, side: Side, number: u8, ends: &mut [i64]) -> Result<usize, Refusal> {
         in_range(number, side.peers())?;
         let slots = self.oldest_first(|request| request.end(side).0 == number);
-        let count = self.free_all(&slots, side.other(), ends)?;
-        if side == Side::Publisher {
-            self.finishing[usize::from(number)] = false;
-        }
-        Ok(count)
-    }
-
-    /// Marks a publisher as finishing, until its loss is next accepted: it gets
-    /// no more requests, and those in flight stay.
-    pub fn finish(&mut self, publisher: u8) -> Result<(), Refusal> {
-        in_range(publisher, PUBLISHERS)?;
-        self.finishing[usize::from(publisher)] = true;
-        Ok(())
-    }
-
-    /// Whether a publisher is finishing; one out of range never is.
-    pub fn is_finishing(&self, publisher: u8) -> bool {
-        let found = self.finishing.get(usize::from(publisher));
-        found.is_some_and(|&finishing| finishing)
-    }
-
-    /// How many requests a publisher has in flight.
-    pub fn load(&self, publisher: u8) -> Result<usize, Refusal> {
-        in_range(publisher, PUBLISHERS)?;
-        Ok(self.loads[usize::from(publisher)])
+        self.free_all(&slots, side.other(), ends)
     }
 
     /// Frees all requests whose deadline is at or before the latest time seen,
@@ -231,15 +204,11 @@ impl Table {
         if self.by_front.contains_key(&(link, number)) {
             return Err(Refusal::InFlightAlready);
         }
-        if self.is_finishing(publisher) {
-            return Err(Refusal::PublisherFinishing);
-        }
         self.has_room(publisher)
     }
 
     /// The room rule of demand 3. A publisher under its reserve always has
-    /// room, since the sum counts the reserves of all as used, those of
-    /// finishing ones too.
+    /// room, since the sum counts the reserves of all as used.
     fn has_room(&self, publisher: u8) -> Result<(), Refusal> {
         let load = self.loads[usize::from(publisher)];
         if load < RESERVED {

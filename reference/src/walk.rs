@@ -46,7 +46,6 @@ fn write_answer(output: &mut impl Write, answer: Answer, ends: &[i64]) -> io::Re
             write_drops(output, side.of("closed", "lost"), &ends[..2 * count])
         }
         Answer::RunOut(count) => write_drops(output, "out", &ends[..2 * count]),
-        Answer::Finish => writeln!(output, "fin"),
     }
 }
 
@@ -79,10 +78,9 @@ mod tests {
 
     #[test]
     fn a_bad_event_stops_the_walk() {
-        assert_eq!(lines(&[4, 0, 9, 4, 0]), "closed 0\nno 35\n");
+        assert_eq!(lines(&[4, 0, 8, 4, 0]), "closed 0\nno 35\n");
         assert_eq!(lines(&[5, 0, 2, 0, 1]), "lost 0\nno 35\n");
         assert_eq!(lines(&[4, 0, 7, 0, 1]), "closed 0\nno 35\n");
-        assert_eq!(lines(&[4, 0, 8]), "closed 0\nno 35\n");
     }
 
     #[test]
@@ -102,14 +100,6 @@ mod tests {
         ];
         let events = [&ask_by[..], &run_out(10), &run_out(11), &run_out(12)].concat();
         assert_eq!(lines(&events), "ask 1\nout 0\nout 1\ndrop 3 77\nout 0\n");
-    }
-
-    #[test]
-    fn a_finish_prints_fin_each_time() {
-        let ask = [1, 3, 77, 0, 0, 0, 0, 0, 0, 0, 5];
-        let events = [&[8, 5, 8, 5, 8, 8][..], &ask, &[5, 5], &ask].concat();
-        let expected = "fin\nfin\nno 30\nno 27\nlost 0\nask 1\n";
-        assert_eq!(lines(&events), expected);
     }
 
     #[test]

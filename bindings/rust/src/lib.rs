@@ -13,7 +13,7 @@
 //! ```
 //! use relay::{Arrival, Link, Moment, Settings, Side, ToSend};
 //!
-//! let now = Moment { time: 1_700_000_000, in_flight: 0 };
+//! let now = Moment { time: 1_700_000_000 };
 //! let link = |side| Link::new(Settings::new(side, true));
 //! let (mut client, mut server) = (link(Side::Client)?, link(Side::Server)?);
 //! let mut buf = [0; 128];

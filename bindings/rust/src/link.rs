@@ -89,19 +89,11 @@ impl Settings {
 pub struct Moment {
     /// Our time, in seconds.
     pub time: u32,
-    /// How many requests that we sent over the link are unanswered: on a
-    /// publisher's link its [`load`](crate::Table::load). At a client a server fin
-    /// closes the link where it is 0, and client fin is refused; at a server no
-    /// rule heeds it.
-    pub in_flight: u32,
 }
 
 impl Moment {
     pub(crate) fn raw(self) -> raw::Moment {
-        raw::Moment {
-            time: self.time,
-            inflight: self.in_flight,
-        }
+        raw::Moment { time: self.time }
     }
 }
 
@@ -152,9 +144,8 @@ impl Link {
     }
 
     /// The packet at the front of `bytes`, how many bytes it lacks, or why it
-    /// is refused. Refusals 1 to 10, 17, 21, 24 to 26 and 28 close the link; 20
-    /// and 22 leave it as it was. One packet closes it: server fin at a client with
-    /// nothing in flight.
+    /// is refused. Refusals 1 to 10, 17, 21 and 24 to 26 close the link; 20 and
+    /// 22 leave it as it was.
     pub fn receive<'a>(&mut self, bytes: &'a [u8], moment: Moment) -> Arrival<'a> {
         self.receive_at(bytes, moment).0
     }
@@ -184,8 +175,7 @@ impl Link {
         (arrival, place)
     }
 
-    /// Whether a refused packet has closed the link, or a server fin that came
-    /// to a client with nothing in flight.
+    /// Whether a refused packet has closed the link.
     pub fn is_closed(&self) -> bool {
         self.0.closed
     }
@@ -200,18 +190,6 @@ impl Link {
     /// enciphered after [`send`](Link::send). [`Session`](crate::Session) does so.
     pub fn is_ciphered(&self) -> bool {
         self.0.ciphered
-    }
-
-    /// Whether we sent our fin: a client its client fin, a server its server fin.
-    /// A client sends no invoke any more.
-    pub fn is_our_fin_sent(&self) -> bool {
-        self.0.ourfin
-    }
-
-    /// Whether the other side's fin came. At a client: no invoke is sent any more;
-    /// at a server: none is taken.
-    pub fn has_their_fin(&self) -> bool {
-        self.0.theirfin
     }
 
     /// The state as it crosses the C interface.

@@ -76,10 +76,6 @@ refusals! {
     VERSION_TOO_OLD = 24, "a Nonce's version is below the link's lowest";
     PADDING_NOT_ZERO = 25, "a byte of the padding behind a packet is not 0";
     FOURTH_WORD = 26, "a fourth word of 4 before a packet";
-    PUBLISHER_FINISHING = 27, "the publisher is finishing and gets no new request";
-    RECEIVED_AFTER_FIN = 28, "an invoke came after client fin, or a fin came twice";
-    SENT_AFTER_FIN = 29,
-        "an invoke is to be sent after a fin, a fin twice, or client fin with nothing in flight";
     OUT_OF_RANGE = 30,
         "a link, publisher, first number, time, lowest or derivation's version is out of range";
     IN_FLIGHT_ALREADY = 31, "the link has a request in flight with this number";

@@ -37,7 +37,7 @@ pub use agreement::{Address, Addresses, Card};
 /// ```
 /// use relay::{Moment, Session, Settings, Side, ToSend};
 ///
-/// let now = Moment { time: 1_700_000_000, in_flight: 0 };
+/// let now = Moment { time: 1_700_000_000 };
 /// let mut client = Session::new(Settings::new(Side::Client, true))?;
 /// let mut server = Session::new(Settings::new(Side::Server, true))?;
 /// client.send(ToSend::Nonce { random: [7; 16] }, now)?;
@@ -113,8 +113,7 @@ impl Session {
     }
 
     /// The next packet, if it is whole. After a refusal other than 22 the session
-    /// is closed, and so it is behind a server fin that came to a client with
-    /// nothing in flight: that is a packet, and the next call is refused with 20.
+    /// is closed.
     ///
     /// It is a `next` that takes the time with it, so no iterator's.
     #[allow(clippy::should_implement_trait)]
@@ -143,10 +142,6 @@ impl Session {
                 agreement.take_theirs(self.input.part(&body));
             }
             self.agree()?;
-        }
-        if self.link.is_closed() {
-            // A server fin, with nothing in flight: nothing more comes.
-            self.input.end();
         }
         let body = self.input.part(&body);
         Ok(Some(Packet { kind, body }))
@@ -181,8 +176,8 @@ impl Session {
     }
 
     /// All that is to be written to the socket now, flushed, and enciphered on a
-    /// ciphered link. Of a closed link nothing can be flushed: what was sent since
-    /// the last output is dropped there, if it is ciphered.
+    /// ciphered link. Of a link that a refusal has closed nothing can be flushed:
+    /// what was sent since the last output is dropped there, if it is ciphered.
     ///
     /// It is called behind the last packet that is to go out at once: each output
     /// ends a block.
@@ -196,20 +191,9 @@ impl Session {
         self.link.is_open()
     }
 
-    /// Whether a fault has closed the session, or a server fin that came to a
-    /// client with nothing in flight.
+    /// Whether a fault has closed the session.
     pub fn is_closed(&self) -> bool {
         self.is_broken || self.link.is_closed()
-    }
-
-    /// Whether we sent our fin.
-    pub fn is_our_fin_sent(&self) -> bool {
-        self.link.is_our_fin_sent()
-    }
-
-    /// Whether the other side's fin came.
-    pub fn has_their_fin(&self) -> bool {
-        self.link.has_their_fin()
     }
 
     /// Whether the Nonces chose the cipher.

@@ -51,7 +51,7 @@ impl Table {
         let mut table = Table(raw::Table {
             masks: [0; 9],
             numbers: [0; 136],
-            places: [0; 136],
+            places: [0; 128],
             order: [0; 64],
             times: [0; 65],
         });
@@ -111,7 +111,7 @@ impl Table {
     /// A front link closed or a publisher is lost: frees its requests; hands
     /// back the other end of each, oldest accepted first, which it wrote to the
     /// front of `out`. What lies past them stays. A lost publisher's numbering
-    /// goes on, and it is no longer [finishing](Table::finish).
+    /// goes on.
     ///
     /// ```
     /// use relay::{FrontNumber, OtherEnds, Peer, PublisherNumber, Table, ALL_ENDS};
@@ -166,40 +166,6 @@ impl Table {
         let dropped = raw::relay_run_out(&mut self.0, time, out);
         let ends = EndList::new(&out[..2 * dropped.count], FrontNumber);
         Refusal::unless(dropped.refusal, ends)
-    }
-
-    /// Marks a publisher finishing, since its server fin came or since we end its
-    /// link ourselves: asks for it are refused with 27 until its loss
-    /// ([`gone`](Table::gone)) is next accepted, and its requests in flight stay.
-    /// Marking it twice changes nothing; refused with 30 for a publisher out of
-    /// range.
-    ///
-    /// ```
-    /// use relay::{FrontNumber, Peer, PublisherNumber, Refusal, Table};
-    ///
-    /// let mut table = Table::new(PublisherNumber(1))?;
-    /// let number = table.ask(3, FrontNumber(77), 0)?;
-    /// table.finish(0)?;
-    /// let refused = table.ask(3, FrontNumber(78), 0);
-    /// assert_eq!(refused, Err(Refusal::PUBLISHER_FINISHING));
-    /// // Its answers still come; then its link is hung up.
-    /// assert_eq!(table.load(0), Ok(1));
-    /// table.reply(0, number)?;
-    /// assert_eq!(table.load(0), Ok(0));
-    /// assert!(table.gone(Peer::Publisher(0), &mut [])?.is_empty());
-    /// table.ask(3, FrontNumber(78), 0)?;
-    /// # Ok::<(), Refusal>(())
-    /// ```
-    pub fn finish(&mut self, publisher: u8) -> Result<(), Refusal> {
-        Refusal::unless(raw::relay_finish(&mut self.0, publisher), ())
-    }
-
-    /// How many requests a publisher has in flight: the
-    /// [`in_flight`](crate::Moment::in_flight) of its link's calls. Refused with 30
-    /// for a publisher out of range.
-    pub fn load(&self, publisher: u8) -> Result<usize, Refusal> {
-        let answer = raw::relay_load(&self.0, publisher);
-        Refusal::unless(answer.refusal, answer.load)
     }
 
     /// The state as it crosses the C interface.

@@ -5,14 +5,11 @@ use relay::{
     Message, Moment, NetPid, NetPids, Refusal, Settings, Side, ToSend,
 };
 
-/// With a request in flight; no rule heeds that at a server.
 const CLIENT_TIME: Moment = Moment {
     time: 1_700_000_000,
-    in_flight: 1,
 };
 const SERVER_TIME: Moment = Moment {
     time: 1_700_000_007,
-    in_flight: 0,
 };
 const NONCE: ToSend = ToSend::Nonce { random: [7; 16] };
 const PIDS: NetPids = NetPids {

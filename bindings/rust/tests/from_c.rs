@@ -46,10 +46,6 @@ after 249 ms: 0 ran out
 after 250 ms: 1 ran out
 link 5, number 77
 replied too late: 34
-publisher 0 finishes: open, a new request is refused with 27
-its last answer is in: 0 in flight
-and when it is back: refused with 0
-with nothing in flight: closed
 ";
     assert_eq!(printed("example", &[]), expected);
 }

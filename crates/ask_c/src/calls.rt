@@ -1,6 +1,6 @@
 // A fresh table, and ask.
 ghost use Rattle.std.specs.Prelude.{◌≡◌};
-ghost use Rattle.inflight.specs.Tables.{table_of, fresh_answer, fresh_masks, fresh_numbers, fresh_places, fresh_times, ask_of};
+ghost use Rattle.inflight.specs.Tables.{table_of, fresh_answer, fresh_masks, fresh_numbers, fresh_times, ask_of};
 ghost use Rattle.ask_c.specs.AskFields.{started_refusal, ask_fields};
 
 use crate::RelayAsked;
@@ -31,23 +31,21 @@ fn ask_fields(a: AskAnswer) -> RelayAsked
     }
 }
 
-// A table starts at a first publisher number: a refusal's number, or 0. `order`, and the links, publishers and
-// deadlines of slots, stay in any case.
+// A table starts at a first publisher number: a refusal's number, or 0. `places`, `order` and the
+// deadlines of slots stay in any case.
 #[unsafe(no_mangle)]
 pub extern "C" fn relay_fresh_lent(
     masks: &mut [u64; 9],
     numbers: &mut [i64; 136],
-    places: &mut [u8; 136],
     times: &mut [u64; 65],
     first: PublisherNumber,
 ) -> u8
     ensures { (result ≡ started_refusal (fresh_answer first))
         × (masks.new ≡ fresh_masks first masks.old)
         × (numbers.new ≡ fresh_numbers first numbers.old)
-        × (places.new ≡ fresh_places first places.old)
         × (times.new ≡ fresh_times first times.old) }
 {
-    let a = inflight::fresh(masks, numbers, places, times, first);
+    let a = inflight::fresh(masks, numbers, times, first);
     started_refusal(a)
 }
 
@@ -57,7 +55,7 @@ pub extern "C" fn relay_fresh_lent(
 pub extern "C" fn relay_ask_lent(
     masks: &mut [u64; 9],
     numbers: &mut [i64; 136],
-    places: &mut [u8; 136],
+    places: &mut [u8; 128],
     order: &mut [u8; 64],
     times: &mut [u64; 65],
     link: u8,

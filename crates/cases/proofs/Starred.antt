@@ -31,7 +31,6 @@ use Rattle.opening.specs.Clock.{clock_of, nonce_clock, near_of}
 use Rattle.link_cipher.specs.Chosen.{server_refuses, encryption_refused, chosen_of, cipher_refused}
 use Rattle.opening.specs.Nonce.{least_of, beyond_of, nonce_refusal}
 use Rattle.link.specs.Look.{turn_refusal, look_of}
-use Rattle.link_fins.specs.Fins.{fin_for, ended_for, fin_refusal, their_fin_after, closed_after}
 use Rattle.link_next.specs.KeepAlive.{awaits_after, owes_after, owed_after}
 use Rattle.link_next.specs.Next.{closed_of, closes_of, refused_of, agreed_after, version_after, after_of}
 use Rattle.link.specs.Receive.{body_refusal, receive_of}
@@ -104,7 +103,7 @@ timed-small t = small-nonce 0 0 2 t (replicate 16 0) (replicate 32 0) (small-zer
 -- ---- the rows
 
 length-16 : Holds length16
-unfolding length16 le bytes clock clocks feed feeds crc may_send stage_after castagnoli_of sum_of length_refusal allowed_of head_refusal padded_of pads_of tail_of words_allowed word_at words_of whole_of rows_of frame_of turn_refusal look_of awaits_after owes_after owed_after closed_of closes_of refused_of agreed_after version_after fin_for ended_for fin_refusal their_fin_after closed_after after_of body_refusal receive_of head_of front_of packet_of
+unfolding length16 le bytes clock clocks feed feeds crc may_send stage_after castagnoli_of sum_of length_refusal allowed_of head_refusal padded_of pads_of tail_of words_allowed word_at words_of whole_of rows_of frame_of turn_refusal look_of awaits_after owes_after owed_after closed_of closes_of refused_of agreed_after version_after after_of body_refusal receive_of head_of front_of packet_of
 length-16 = refl
 
 length-15 : Holds length15
@@ -124,7 +123,7 @@ unfolding number_sent ping_step control_step control_answer send_refusal may_sen
 number-sent = refl
 
 number-received : Holds number_received
-unfolding number_received le bytes clock clocks feed feeds crc may_send stage_after castagnoli_of sum_of length_refusal allowed_of head_refusal padded_of pads_of tail_of words_allowed word_at words_of whole_of rows_of frame_of turn_refusal look_of awaits_after owes_after owed_after closed_of closes_of refused_of agreed_after version_after fin_for ended_for fin_refusal their_fin_after closed_after after_of body_refusal receive_of head_of front_of packet_of
+unfolding number_received le bytes clock clocks feed feeds crc may_send stage_after castagnoli_of sum_of length_refusal allowed_of head_refusal padded_of pads_of tail_of words_allowed word_at words_of whole_of rows_of frame_of turn_refusal look_of awaits_after owes_after owed_after closed_of closes_of refused_of agreed_after version_after after_of body_refusal receive_of head_of front_of packet_of
 number-received = refl
 
 clock-30-behind : Holds clock30_behind
@@ -188,7 +187,6 @@ answer_of (H.asked a) = a
 answer_of (H.replied a) = A.Refused 0
 answer_of (H.cancelled a) = A.Refused 0
 answer_of (H.dropped a out) = A.Refused 0
-answer_of (H.finished a) = A.Refused 0
 
 asked-as : (w : Table) (m : Model) → Reads w m → (p n : ℕ)
     → asked w p n ≡ of_ask (ask_answer m p (record { 0 = pos n }) p 0)

@@ -31,9 +31,9 @@ abbrev ◌is◌ : Outcome → Outcome → Case
 abbrev pub side : Bool → Settings
 side server = record { server = server; allows = false; lowest = 0; padded = false; cipher = false; only = false }
 
--- our clock, and nothing in flight
+-- our clock
 abbrev pub our : Moment
-our = record { time = 1000; inflight = 0 }
+our = record { time = 1000 }
 
 -- a link whose opening is over, with the next numbers of each direction
 abbrev pub opened : Bool → ℕ → ℕ → Link
@@ -48,8 +48,6 @@ opened server sends gets =
       awaits = false;
       owes = false;
       ciphered = false;
-      ourfin = false;
-      theirfin = false;
       keyid = 0;
       sends = sends;
       gets = gets;
@@ -104,7 +102,7 @@ zeros =
     record {
       masks = replicate 9 0;
       numbers = replicate 136 (pos 0);
-      places = replicate 136 0;
+      places = replicate 128 0;
       order = replicate 64 0;
       times = replicate 65 0;
     }

@@ -20,7 +20,7 @@ use Rattle.link_state.specs.declared.Moment.{Moment}
 use Rattle.cipher_talk.specs.Drain.{Got, Drained, Piece, joined, fed}
 use Rattle.cipher_talk.specs.Comes.{Comes}
 use Rattle.cipher_talk.specs.Ends.{End, Cut, cut_by, In, comes_in, all_in, AllDone}
-use Rattle.cipher_talk.proofs.Pieces.{AllAt, any-pieces}
+use Rattle.cipher_talk.proofs.Pieces.{any-pieces}
 
 -- ---- the pieces
 
@@ -70,12 +70,6 @@ open-joined d v (p ∷ ps) =
     ap (λ (x : List ℕ). decipher_buffer (back_cipher d) v p.bytes ++ x)
     (open-joined d (decipher_answer v p.bytes).vector ps)
 
--- the clocks stay
-open_at : (B : Moment → Type 0) (d v : List ℕ) (ps : List Piece) → AllAt B ps → AllAt B (opened d v ps)
-unfolding opened
-open_at B d v [] at = tt
-open_at B d v (p ∷ ps) at = (at.0, open_at B d _ ps at.1)
-
 open-long : (d v : List ℕ) (ps : List Piece) → length (opened d v ps) ≡ length ps
 unfolding opened
 open-long d v [] = refl
@@ -105,10 +99,10 @@ in-clear e (p ∷ ps) =
     let i : In = comes_in e p in
     ap (λ (r : In). record { end = r.end; got = i.got ++ r.got }) (in-clear i.end ps)
 
-some-pieces : {B : Moment → Type 0} {k k2 : Link} {s t : List ℕ} {gs : List Got} → Comes B k s gs k2 t → (h : List ℕ)
-    (ps : List Piece) → 1 ≤ length ps → AllAt B ps → h ++ joined ps ≡ s → fed k h ps ≡ record { link = k2; got = gs; left = t }
-some-pieces c h [] n at e = absurd (omega arith)
-some-pieces c h (p ∷ ps) n at e = any-pieces c h p ps at e
+some-pieces : {k k2 : Link} {s t : List ℕ} {gs : List Got} → Comes k s gs k2 t → (h : List ℕ) (ps : List Piece)
+    → 1 ≤ length ps → h ++ joined ps ≡ s → fed k h ps ≡ record { link = k2; got = gs; left = t }
+some-pieces c h [] n e = absurd (omega arith)
+some-pieces c h (p ∷ ps) n e = any-pieces c h p ps e
 
 -- ---- THE LAW: bytes s that b takes, behind what it holds, it takes so too when they come enciphered in any pieces of
 -- whole blocks; and its vector is then the other side's
@@ -145,15 +139,15 @@ module _ (b : End) {key v : List ℕ} (s : List ℕ) (hk : Sized 32 key) (hv : S
       ∙ (ap (λ (x : List ℕ). (decipher_answer v x).vector) (cut-joined cs last ciphered)
       ∙ ap (λ (r : Chained). r.vector) (undone s hk hv low whole).1))
 
-  pub carries : {B : Moment → Type 0} {k2 : Link} {t : List ℕ} {gs : List Got} → AllAt B pieces
-      → Comes B b.link (b.held ++ s) gs k2 t → all_in b pieces
+  pub carries : {k2 : Link} {t : List ℕ} {gs : List Got} → Comes b.link (b.held ++ s) gs k2 t
+      → all_in b pieces
       ≡ arrived b (record { link = k2; got = gs; left = t }) (encipher_answer (keys key) v s).vector
-  carries {B} {k2} {t} {gs} at c =
+  carries {k2} {t} {gs} c =
       let ps = opened b.inward.keys b.inward.vector pieces in
       let n : 1 ≤ length ps =
       omega (arith, open-long b.inward.keys b.inward.vector pieces, cut-some cs last ciphered) in
       let f : fed b.link b.held ps ≡ record { link = k2; got = gs; left = t } =
-      some-pieces c b.held ps n (open_at B b.inward.keys b.inward.vector pieces at) (ap (λ (x : List ℕ). b.held ++ x) clear-again) in
+      some-pieces c b.held ps n (ap (λ (x : List ℕ). b.held ++ x) clear-again) in
       in-clear b pieces
       ∙ (ap (λ (d : Drained). arrived b d (carried (back b.inward.keys) b.inward.vector (blocks_of pieces))) f
       ∙ ap (arrived b (record { link = k2; got = gs; left = t })) vector-again)

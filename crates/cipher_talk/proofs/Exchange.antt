@@ -19,7 +19,6 @@ use Rattle.packet_padding.specs.Padding.{padded_of, pads_of, tail_of, words_allo
 use Rattle.packet_out.specs.Size.{size_of}
 use Rattle.packet_out.specs.Packet.{packet_of}
 use Rattle.link.specs.Look.{turn_refusal}
-use Rattle.link_fins.specs.Fins.{fin_for, their_fin_after, closed_after}
 use Rattle.link_next.specs.KeepAlive.{awaits_after, owes_after, owed_after}
 use Rattle.link_next.specs.Next.{agreed_after, version_after, ciphered_after, after_of}
 use Rattle.handshake_out.specs.Handshake.{flags_of, handshake_body}
@@ -105,7 +104,7 @@ module _ (x y : Choices) (meet : Meet x y) (both : both_of x y ≡ true) (c s : 
 
   -- the server after it: its turn
   server-takes : (m : Moment) → after_of s2 0x7682eef5 hand_c m ≡ s3
-  unfolding after_of closed_after their_fin_after fin_for agreed_after version_after ciphered_after stage_after awaits_after owes_after owed_after flags_of
+  unfolding after_of agreed_after version_after ciphered_after stage_after awaits_after owes_after owed_after flags_of
   server-takes m = rw (hand-flag x.allows c.pid s.pid)
 
   server-turn : theirs s3 ≡ false
@@ -147,7 +146,7 @@ module _ (x y : Choices) (meet : Meet x y) (both : both_of x y ≡ true) (c s : 
   hand_s = handshake_body (flags_of s3) s.pid c.pid
 
   client-takes : (m : Moment) → after_of c4 0x7682eef5 hand_s m ≡ c5
-  unfolding after_of closed_after their_fin_after fin_for agreed_after version_after ciphered_after stage_after awaits_after owes_after owed_after flags_of
+  unfolding after_of agreed_after version_after ciphered_after stage_after awaits_after owes_after owed_after flags_of
   client-takes m = rw (hand-flag agreed s.pid c.pid)
 
   client-waits : (1 ≤ words_allowed c5) × (turn_refusal c5 ≡ 0)
@@ -285,7 +284,6 @@ module _ (x y : Choices) (meet : Meet x y) (both : both_of x y ≡ true) (c s : 
         not_closed = refl;
         number = lit< tt;
         sides = refl;
-        fin = refl;
       }
 
   meets-back : Meets e4 i4.end
@@ -310,7 +308,6 @@ module _ (x y : Choices) (meet : Meet x y) (both : both_of x y ≡ true) (c s : 
         not_closed = refl;
         number = lit< tt;
         sides = refl;
-        fin = refl;
       }
 
   -- ---- all of it

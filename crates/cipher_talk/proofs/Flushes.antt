@@ -29,8 +29,6 @@ pub record Kept (l l2 : Link) : Type 0 where
   pub closed : l2.closed ≡ l.closed
   pub sends : l2.sends ≡ l.sends
   pub server : l2.set.server ≡ l.set.server
-  pub ours : l2.ourfin ≡ l.ourfin
-  pub theirs : l2.theirfin ≡ l.theirfin
   pub there : (k : Link) → Awaits k l → Awaits k l2
   pub back : (k : Link) → Awaits l k → Awaits l2 k
 
@@ -58,8 +56,6 @@ module _ (l : Link) (b : List ℕ) (not_closed : l.closed ≡ false) (room : 12 
         closed = ap (λ (x : Link). x.closed) e;
         sends = ap (λ (x : Link). x.sends) e;
         server = ap (λ (x : Link). x.set.server) e;
-        ours = ap (λ (x : Link). x.ourfin) e;
-        theirs = ap (λ (x : Link). x.theirfin) e;
         there = λ k. (flush-keeps l b (words_due l * 4) a k).0;
         back = λ k. (flush-keeps l b (words_due l * 4) a k).1;
       }

@@ -25,7 +25,6 @@ use Rattle.packet_out.specs.Packet.{packet_of}
 use Rattle.packet_out.specs.declared.Sent.{Sent}
 use Rattle.packet_out.specs.declared.Sent.TheVariants.{Written, Refused}
 use Rattle.packet_out.proofs.PacketLaws.{length-packet, take-front}
-use Rattle.link_fins.specs.Fins.{closed_after}
 use Rattle.link_next.specs.Next.{after_of}
 use Rattle.link.specs.Receive.{body_refusal}
 use Rattle.handshake_in.specs.declared.NetPid.{NetPid}
@@ -39,12 +38,11 @@ use Rattle.pair.proofs.Pids.{small-handshake}
 use Rattle.pair.proofs.SumLaws.{small-append}
 use Rattle.pair.proofs.Opening.{hand-passes}
 use Rattle.pair.proofs.Words.{length-fours}
-use Rattle.cipher_talk.specs.Drain.{control, got_of, Piece}
-use Rattle.cipher_talk.specs.Comes.{Any, Fine, Comes, takes}
+use Rattle.cipher_talk.specs.Drain.{control, got_of}
+use Rattle.cipher_talk.specs.Comes.{Fine, Comes, takes}
 use Rattle.cipher_talk.specs.Ends.{End, front, Wrote, flushed, cut_by, all_in, AllDone}
 use Rattle.cipher_talk.specs.Exchange.{Way, greets, greet_out, greet_in}
 use Rattle.cipher_talk.proofs.Low.{low-bytes, small-packet, small-fours}
-use Rattle.cipher_talk.proofs.Pieces.{AllAt}
 use Rattle.cipher_talk.proofs.Flushes.{step, flushed-is}
 use Rattle.cipher_talk.proofs.Carried.{arrived, none-refused, carries}
 use Rattle.cipher_talk.proofs.Turns.{same_bytes}
@@ -70,8 +68,8 @@ module _ (k l : Link) (p q : NetPid) where
   -- a client that did not offer CRC-32C gets no flag
   pub hand-fine : Awaits k l → 2 ≤ k.stage → k.stage < 4 → l.sends < 2 ^ 32
       → (not k.set.server && (not k.set.allows && pick l.set.server l.crc32c l.set.allows)) ≡ false
-      → Fine Any k l 0x7682eef5 hand
-  unfolding body_refusal flags_of closed_after
+      → Fine k l 0x7682eef5 hand
+  unfolding body_refusal flags_of
   hand-fine a g h n e =
       record {
         awaited = a;
@@ -82,13 +80,7 @@ module _ (k l : Link) (p q : NetPid) where
         kind_fits = lit< tt;
         bytes = small-handshake (flags_of l) p q;
         taken = λ m. hand-passes (pick l.set.server l.crc32c l.set.allows) p q k.set e;
-        stays = λ m i. refl;
       }
-
--- all pieces come at any clock
-all_any : (ps : List Piece) → AllAt Any ps
-all_any [] = tt
-all_any (p ∷ ps) = (tt, all_any ps)
 
 -- l sends its Handshake, l2, and a word behind it, l3; k takes it and is k2, with the word left
 pub record Greeting (l k : Link) (p q : NetPid) (b : List ℕ) (l2 l3 k2 : Link) : Type 0 where
@@ -98,9 +90,9 @@ pub record Greeting (l k : Link) (p q : NetPid) (b : List ℕ) (l2 l3 k2 : Link)
   pub due : words_due l2 ≡ 1
   pub not_closed : l2.closed ≡ false
   pub word : flushed_of l2 4 ≡ l3
-  pub fine : Fine Any k l 0x7682eef5 (handshake_body (flags_of l) p q)
+  pub fine : Fine k l 0x7682eef5 (handshake_body (flags_of l) p q)
   pub rest : (m : Moment)
-      → Comes Any (after_of k 0x7682eef5 (handshake_body (flags_of l) p q) m) (fours_of 1) [] k2 (fours_of 1)
+      → Comes (after_of k 0x7682eef5 (handshake_body (flags_of l) p q) m) (fours_of 1) [] k2 (fours_of 1)
 
 module _ (a b : End) (p q : NetPid) (w : Way) {key v : List ℕ} {l2 l3 k2 : Link} (hk : Sized 32 key) (hv : Sized 16 v)
     (out_keys : a.outward.keys ≡ keys key) (out-vector : a.outward.vector ≡ v)
@@ -210,11 +202,11 @@ module _ (a b : End) (p q : NetPid) (w : Way) {key v : List ℕ} {l2 l3 k2 : Lin
     rw ciphered-is (none-refused b clear hk hv in_keys in-vector low whole w.cuts w.last),
   )
 
-  comes : Comes Any b.link (b.held ++ clear) (control 0x7682eef5 body ∷ []) k2 (fours_of 1)
+  comes : Comes b.link (b.held ++ clear) (control 0x7682eef5 body ∷ []) k2 (fours_of 1)
   unfolding fours_of got_of
   comes =
       same_bytes (ap (λ (x : List ℕ). x ++ clear) none)
-      (takes {k = b.link} {l = a.link} 0 w.last tt (omega arith) g.fine (g.rest w.last))
+      (takes {k = b.link} {l = a.link} 0 w.last (omega arith) g.fine (g.rest w.last))
 
   -- and the other end
   pub got-is : greet_in b (greet_out a p q w) w
@@ -222,4 +214,4 @@ module _ (a b : End) (p q : NetPid) (w : Way) {key v : List ℕ} {l2 l3 k2 : Lin
       (encipher_answer (keys key) v clear).vector
   got-is =
       ap (λ (x : List ℕ). all_in b (cut_by w.cuts w.last x)) ciphered-is
-      ∙ carries b clear hk hv in_keys in-vector low whole w.cuts w.last (all_any (cut_by w.cuts w.last (encipher_buffer (keys key) v clear))) comes
+      ∙ carries b clear hk hv in_keys in-vector low whole w.cuts w.last comes

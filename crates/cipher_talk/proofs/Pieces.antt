@@ -11,7 +11,6 @@ use lib.Dec.{ltb}
 use Rattle.wire.specs.Choice.{pick}
 use Rattle.link_state.specs.declared.Link.{Link}
 use Rattle.link_state.specs.declared.Moment.{Moment}
-use Rattle.link_fins.specs.Fins.{closed_after}
 use Rattle.packet.specs.Body.{body_of}
 use Rattle.packet_padding.specs.Padding.{words_allowed, fours_of}
 use Rattle.packet.specs.declared.Arrival.TheVariants.{Packet}
@@ -56,13 +55,12 @@ unfolding drained
 out-of-turn k s m e zero = refl
 out-of-turn k s m e (suc n) = rw e
 
--- what the clock is does not show in the link, if it is closed at neither
-any-clock : (k : Link) (kind : ℕ) (body : List ℕ) (m m2 : Moment) → closed_after k kind m ≡ k.closed
-    → closed_after k kind m2 ≡ k.closed → after_of k kind body m ≡ after_of k kind body m2
+-- what the clock is does not show in the link
+any-clock : (k : Link) (kind : ℕ) (body : List ℕ) (m m2 : Moment) → after_of k kind body m ≡ after_of k kind body m2
 unfolding after_of
-any-clock k kind body m m2 e e2 = rw (e, e2)
+any-clock k kind body m m2 = refl
 
-module _ {B : Moment → Type 0} {k l : Link} {kind : ℕ} {body : List ℕ} (f : Fine B k l kind body) (w : ℕ) (h : w ≤ words_allowed k) where
+module _ {k l : Link} {kind : ℕ} {body : List ℕ} (f : Fine k l kind body) (w : ℕ) (h : w ≤ words_allowed k) where
   -- the words and the packet
   abbrev chunk : List ℕ
   chunk = fours_of w ++ packet_of l kind body
@@ -76,11 +74,11 @@ module _ {B : Moment → Type 0} {k l : Link} {kind : ℕ} {body : List ℕ} (f 
   some = omega (arith, long-chunk)
 
   -- a packet that is whole is taken, whatever follows
-  one : (rest : List ℕ) (m m2 : Moment) → B m → B m2 → (n : ℕ)
+  one : (rest : List ℕ) (m m2 : Moment) (n : ℕ)
       → drained (suc n) k (chunk ++ rest) m
       ≡ ahead (got_of (side_of k.set.server) kind body) (drained n (after_of k kind body m2) rest m)
   unfolding drained body_of
-  one rest m m2 i i2 n =
+  one rest m m2 n =
       let s : List ℕ = fours_of w ++ (packet_of l kind body ++ rest) in
       let next : Link → List ℕ → Drained = λ k2 t. drained n k2 t m in
       let side = side_of k.set.server in
@@ -96,12 +94,12 @@ module _ {B : Moment → Type 0} {k l : Link} {kind : ℕ} {body : List ℕ} (f 
       ∙ (ap (drain_by next k s) r
       ∙ (ap (λ (t : List ℕ). ahead (got_of side kind t) (next k2 (drop used s))) (reads-behind l kind body rest w)
       ∙ (ap (λ (t : List ℕ). ahead (got_of side kind body) (next k2 t)) d
-      ∙ ap (λ (k3 : Link). ahead (got_of side kind body) (next k3 rest)) (any-clock k kind body m m2 (f.stays m i) (f.stays m2 i2))))))
+      ∙ ap (λ (k3 : Link). ahead (got_of side kind body) (next k3 rest)) (any-clock k kind body m m2)))))
 
-  one_of : (x rest : List ℕ) → x ≡ chunk ++ rest → (m m2 : Moment) → B m → B m2 → (n : ℕ)
+  one_of : (x rest : List ℕ) → x ≡ chunk ++ rest → (m m2 : Moment) (n : ℕ)
       → drained (suc n) k x m
       ≡ ahead (got_of (side_of k.set.server) kind body) (drained n (after_of k kind body m2) rest m)
-  one_of x rest e m m2 i i2 n = rw e (one rest m m2 i i2 n)
+  one_of x rest e m m2 n = rw e (one rest m m2 n)
 
 -- ---- the bytes that came, x, and those that are to come, y
 
@@ -124,68 +122,67 @@ module _ (x y c s : List ℕ) (e : x ++ y ≡ c ++ s) (h : length c ≤ length x
   is-back = sym (drop-append-le (length c) x y h) ∙ (ap (drop (length c)) e ∙ drop_at c s (length c) refl)
 
 -- after so many calls as d made, with y to come, all goes on as it should
-record Goes (B : Moment → Type 0) (gs : List Got) (k2 : Link) (t y : List ℕ) (d : Drained) : Type 0 where
+record Goes (gs : List Got) (k2 : Link) (t y : List ℕ) (d : Drained) : Type 0 where
   more : List Got
   split : gs ≡ d.got ++ more
-  comes : Comes B d.link (d.left ++ y) more k2 t
+  comes : Comes d.link (d.left ++ y) more k2 t
 
 -- nothing was taken yet
-stopped : {B : Moment → Type 0} {k k2 : Link} {s t : List ℕ} {gs : List Got} (c : Comes B k s gs k2 t) (x y : List ℕ) → x ++ y ≡ s
-    → (d : Drained) → d ≡ nothing k x → Goes B gs k2 t y d
+stopped : {k k2 : Link} {s t : List ℕ} {gs : List Got} (c : Comes k s gs k2 t) (x y : List ℕ) → x ++ y ≡ s
+    → (d : Drained) → d ≡ nothing k x → Goes gs k2 t y d
 stopped {gs = gs} c x y e d i = rw i (record { more = gs; split = refl; comes = rw e c })
 
 -- one packet was taken, and then those of d
-one_more : {B : Moment → Type 0} (g : Got) {gs : List Got} {k2 : Link} {t y : List ℕ} {d : Drained} → Goes B gs k2 t y d
-    → Goes B (g ∷ gs) k2 t y (ahead g d)
+one_more : (g : Got) {gs : List Got} {k2 : Link} {t y : List ℕ} {d : Drained} → Goes gs k2 t y d
+    → Goes (g ∷ gs) k2 t y (ahead g d)
 one_more g i = record { more = i.more; split = ap (λ (z : List Got). g ∷ z) i.split; comes = i.comes }
 
-module _ {B : Moment → Type 0} {k l k2 : Link} {kind : ℕ} {body s t : List ℕ} {gs : List Got} (w : ℕ) (m2 : Moment)
-    (i2 : B m2) (h : w ≤ words_allowed k) (f : Fine B k l kind body) (c : Comes B (after_of k kind body m2) s gs k2 t)
-    (ih : (n : ℕ) (x y : List ℕ) → x ++ y ≡ s → (m : Moment) → B m
-    → Goes B gs k2 t y (drained n (after_of k kind body m2) x m)) where
+module _ {k l k2 : Link} {kind : ℕ} {body s t : List ℕ} {gs : List Got} (w : ℕ) (m2 : Moment) (h : w ≤ words_allowed k)
+    (f : Fine k l kind body) (c : Comes (after_of k kind body m2) s gs k2 t)
+    (ih : (n : ℕ) (x y : List ℕ) → x ++ y ≡ s → (m : Moment)
+    → Goes gs k2 t y (drained n (after_of k kind body m2) x m)) where
   abbrev now : Got
   now = got_of (side_of k.set.server) kind body
 
-  by-packet : (n : ℕ) (x y : List ℕ) → x ++ y ≡ fours_of w ++ (packet_of l kind body ++ s) → (m : Moment) → B m
-      → Goes B (now ∷ gs) k2 t y (drained n k x m)
+  by-packet : (n : ℕ) (x y : List ℕ) → x ++ y ≡ fours_of w ++ (packet_of l kind body ++ s) → (m : Moment)
+      → Goes (now ∷ gs) k2 t y (drained n k x m)
   unfolding drained
-  by-packet zero x y e m i1 = stopped (takes w m2 i2 h f c) x y e _ refl
-  by-packet (suc n) x y e m i1 = go (ltb (length x) (length (chunk f w h))) refl
+  by-packet zero x y e m = stopped (takes w m2 h f c) x y e _ refl
+  by-packet (suc n) x y e m = go (ltb (length x) (length (chunk f w h))) refl
     where
-      go : (b : Bool) → ltb (length x) (length (chunk f w h)) ≡ b → Goes B (now ∷ gs) k2 t y (drained (suc n) k x m)
+      go : (b : Bool) → ltb (length x) (length (chunk f w h)) ≡ b → Goes (now ∷ gs) k2 t y (drained (suc n) k x m)
       go true q =
           let i : length x < w * 4 + size_of l (length body) =
           omega (arith, ltb-true (length x) (length (chunk f w h)) q, long-chunk f w h) in
           let p : Waits k x = rw (before-seam x y _ e) (waits-prefix f s w (length x) h i) in
-          stopped (takes w m2 i2 h f c) x y e _ (still k x m f.awaited.turn p (suc n))
+          stopped (takes w m2 h f c) x y e _ (still k x m f.awaited.turn p (suc n))
       go false q =
           let i = ltb-false (length x) (length (chunk f w h)) q in
           let e2 = e ∙ sym (append_assoc (fours_of w) (packet_of l kind body) s) in
           let r = tail x y (chunk f w h) s e2 i in
-          let o = one_of f w h x r (is_front x y (chunk f w h) s e2 i) m m2 i1 i2 n in
-          rw o (one_more now (ih n r y (is-back x y (chunk f w h) s e2 i) m i1))
+          let o = one_of f w h x r (is_front x y (chunk f w h) s e2 i) m m2 n in
+          rw o (one_more now (ih n r y (is-back x y (chunk f w h) s e2 i) m))
 
 -- so many calls on what came so far: with what is to come all goes on
-advance : {B : Moment → Type 0} {k k2 : Link} {s t : List ℕ} {gs : List Got} → Comes B k s gs k2 t → (n : ℕ) (x y : List ℕ)
-    → x ++ y ≡ s → (m : Moment) → B m → Goes B gs k2 t y (drained n k x m)
-advance (words {k = k} w h turn) n x y e m i =
+advance : {k k2 : Link} {s t : List ℕ} {gs : List Got} → Comes k s gs k2 t → (n : ℕ) (x y : List ℕ) → x ++ y ≡ s
+    → (m : Moment) → Goes gs k2 t y (drained n k x m)
+advance (words {k = k} w h turn) n x y e m =
     let l = ap length e ∙ length-fours w in
     let p : Waits k x = rw (before-seam x y (fours_of w) e ∙ ap (take (length x)) (sym (append-nil (fours_of w))))
     (waits-words k w (length x) [] h (omega (arith, l, length-append x y))) in
     stopped (words w h turn) x y e _ (still k x m turn p n)
-advance (ours {k = k} s out) n x y e m i = stopped (ours s out) x y e _ (out-of-turn k x m out n)
-advance (takes w m2 i2 h f c) n x y e m i =
-    by-packet w m2 i2 h f c (λ j u v q o b. advance c j u v q o b) n x y e m i
+advance (ours {k = k} s out) n x y e m = stopped (ours s out) x y e _ (out-of-turn k x m out n)
+advance (takes w m2 h f c) n x y e m = by-packet w m2 h f c (λ i u v q o. advance c i u v q o) n x y e m
 
 -- and enough calls on all that comes take all of it
-module _ {B : Moment → Type 0} {k l k2 : Link} {kind : ℕ} {body t : List ℕ} {gs : List Got} (s : List ℕ) (w : ℕ)
-    (m2 : Moment) (i2 : B m2) (h : w ≤ words_allowed k) (f : Fine B k l kind body)
-    (ih : (n : ℕ) → length s ≤ n → (m : Moment) → B m
+module _ {k l k2 : Link} {kind : ℕ} {body t : List ℕ} {gs : List Got} (s : List ℕ) (w : ℕ) (m2 : Moment)
+    (h : w ≤ words_allowed k) (f : Fine k l kind body)
+    (ih : (n : ℕ) → length s ≤ n → (m : Moment)
     → drained n (after_of k kind body m2) s m ≡ record { link = k2; got = gs; left = t }) where
-  all-of-packet : (n : ℕ) → length (fours_of w ++ (packet_of l kind body ++ s)) ≤ n → (m : Moment) → B m
+  all-of-packet : (n : ℕ) → length (fours_of w ++ (packet_of l kind body ++ s)) ≤ n → (m : Moment)
       → drained n k (fours_of w ++ (packet_of l kind body ++ s)) m
       ≡ record { link = k2; got = got_of (side_of k.set.server) kind body ∷ gs; left = t }
-  all-of-packet n g m i1 = go n (omega (arith, g, ap length assoc, length-append (chunk f w h) s))
+  all-of-packet n g m = go n (omega (arith, g, ap length assoc, length-append (chunk f w h) s))
     where
       assoc : chunk f w h ++ s ≡ fours_of w ++ (packet_of l kind body ++ s)
       assoc = append_assoc (fours_of w) (packet_of l kind body) s
@@ -195,38 +192,32 @@ module _ {B : Moment → Type 0} {k l k2 : Link} {kind : ℕ} {body t : List ℕ
       go zero i = absurd (omega (arith, some f w h))
       go (suc n) i =
           ap (λ (z : List ℕ). drained (suc n) k z m) (sym assoc)
-          ∙ (one f w h s m m2 i1 i2 n
-          ∙ ap (ahead (got_of (side_of k.set.server) kind body)) (ih n (omega (arith, some f w h)) m i1))
+          ∙ (one f w h s m m2 n
+          ∙ ap (ahead (got_of (side_of k.set.server) kind body)) (ih n (omega (arith, some f w h)) m))
 
-finish : {B : Moment → Type 0} {k k2 : Link} {s t : List ℕ} {gs : List Got} → Comes B k s gs k2 t → (n : ℕ)
-    → length s ≤ n → (m : Moment) → B m → drained n k s m ≡ record { link = k2; got = gs; left = t }
-finish (words {k = k} w h turn) n g m i =
+finish : {k k2 : Link} {s t : List ℕ} {gs : List Got} → Comes k s gs k2 t → (n : ℕ) → length s ≤ n → (m : Moment)
+    → drained n k s m ≡ record { link = k2; got = gs; left = t }
+finish (words {k = k} w h turn) n g m =
     let e : take (w * 4) (fours_of w ++ []) ≡ fours_of w = take_at (fours_of w) [] (w * 4) (length-fours w) in
     let p : Waits k (fours_of w) = rw e at (waits-words k w (w * 4) [] h (omega arith)) in
     still k (fours_of w) m turn p n
-finish (ours {k = k} s out) n g m i = out-of-turn k s m out n
-finish (takes {s = s} w m2 i2 h f c) n g m i = all-of-packet s w m2 i2 h f (λ j q o b. finish c j q o b) n g m i
+finish (ours {k = k} s out) n g m = out-of-turn k s m out n
+finish (takes {s = s} w m2 h f c) n g m = all-of-packet s w m2 h f (λ i q o. finish c i q o) n g m
 
--- all pieces come at clocks of B
-abbrev pub AllAt : (Moment → Type 0) → List Piece → Type 0
-AllAt B [] = Unit {0}
-AllAt B (p ∷ ps) = B p.clock × AllAt B ps
-
--- ---- THE THEOREM: the pieces that follow h, cut anywhere, at any clocks of B: each packet is taken once, in order,
+-- ---- THE THEOREM: the pieces that follow h, cut anywhere, at any clocks: each packet is taken once, in order,
 -- nothing is refused, and what is left is what stands behind the last packet
-pub any-pieces : {B : Moment → Type 0} {k k2 : Link} {s t : List ℕ} {gs : List Got} → Comes B k s gs k2 t
-    → (h : List ℕ) (p : Piece) (ps : List Piece) → AllAt B (p ∷ ps) → h ++ joined (p ∷ ps) ≡ s
-    → fed k h (p ∷ ps) ≡ record { link = k2; got = gs; left = t }
+pub any-pieces : {k k2 : Link} {s t : List ℕ} {gs : List Got} → Comes k s gs k2 t → (h : List ℕ) (p : Piece)
+    (ps : List Piece) → h ++ joined (p ∷ ps) ≡ s → fed k h (p ∷ ps) ≡ record { link = k2; got = gs; left = t }
 unfolding joined fed
-any-pieces {B} {k} {k2} {s} {t} {gs} c h p [] at e =
+any-pieces {k} {k2} {s} {t} {gs} c h p [] e =
     let i : h ++ p.bytes ≡ s = ap (λ (z : List ℕ). h ++ z) (sym (append-nil p.bytes)) ∙ e in
     ap (λ (d : Drained). record { link = d.link; got = d.got ++ []; left = d.left })
-    (ap (λ (z : List ℕ). all_of k z p.clock) i ∙ finish c (length s) (omega arith) p.clock at.0)
+    (ap (λ (z : List ℕ). all_of k z p.clock) i ∙ finish c (length s) (omega arith) p.clock)
     ∙ ap (λ (z : List Got). record { link = k2; got = z; left = t }) (append-nil gs)
-any-pieces {B} {k} {k2} {s} {t} {gs} c h p (q ∷ qs) at e =
+any-pieces {k} {k2} {s} {t} {gs} c h p (q ∷ qs) e =
     let d : Drained = all_of k (h ++ p.bytes) p.clock in
     let g = advance c (length (h ++ p.bytes)) (h ++ p.bytes) (joined (q ∷ qs))
-    (append_assoc h p.bytes (joined (q ∷ qs)) ∙ e) p.clock at.0 in
+    (append_assoc h p.bytes (joined (q ∷ qs)) ∙ e) p.clock in
     ap (λ (r : Drained). record { link = r.link; got = d.got ++ r.got; left = r.left })
-    (any-pieces g.comes d.left q qs at.1 refl)
+    (any-pieces g.comes d.left q qs refl)
     ∙ ap (λ (z : List Got). record { link = k2; got = z; left = t }) (sym g.split)

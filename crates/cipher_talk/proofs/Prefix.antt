@@ -106,7 +106,7 @@ rows-rest k p size number kind before el e1 en ek e2 h g =
     let h4 : ltb (length p) 4 ≡ false = le-ltb (length p) 4 (omega arith) in
     simp (el, e1, en, ek, e2, h4, le-ltb (length p) 12 h, lt-ltb (length p) (size + tail_of k size) g)
 
-module _ {B : Moment → Type 0} {k l : Link} {kind : ℕ} {body : List ℕ} (f : Fine B k l kind body) (rest : List ℕ) where
+module _ {k l : Link} {kind : ℕ} {body : List ℕ} (f : Fine k l kind body) (rest : List ℕ) where
   abbrev P : List ℕ
   P = packet_of l kind body ++ rest
 

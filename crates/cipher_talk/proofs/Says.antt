@@ -1,19 +1,17 @@
 -- Messages that one end says, as the packets that the other takes. Assumes nothing.
 use native.Mathlib.Omega.{arith}
-use borrow.Author.Tests.{le-leb, eqb-true}
+use borrow.Author.Tests.{le-leb}
 use mathlib.Core.Path.{◌≡◌, refl, ap, sym, ◌∙◌}
-use mathlib.Core.Bool.{Bool, true, false, not, ◌&&◌, ◌||◌}
+use mathlib.Core.Bool.{Bool, true, false, not, ◌||◌}
 use mathlib.Core.List.{List, [], ◌∷◌, ◌++◌, append_assoc}
 use Prim.Native.Nat.{ℕ, ◌+◌, ◌/◌, ◌%◌, ◌≤◌, ◌<◌, ◌^◌}
 use lib.ListN.{length, take, drop, length-append}
 use lib.Seq.{take_at}
-use lib.Dec.{lit<, eqb}
-use Rattle.wire.specs.Choice.{pick}
+use lib.Dec.{lit<}
 use Rattle.wire.proofs.ByteLaws.{Small}
 use Rattle.header.specs.declared.Side.{Side}
 use Rattle.link_state.specs.declared.Link.{Link}
 use Rattle.link_state.specs.declared.Moment.{Moment}
-use Rattle.link_fins.specs.Fins.{their_fin_after, closed_after, our_fin_sent}
 use Rattle.packet_padding.specs.Padding.{padded_of, pads_of, words_allowed, fours_of, phase_after}
 use Rattle.packet_padding.proofs.PaddingLaws.{tail-whole}
 use Rattle.packet_out.specs.Size.{size_of}
@@ -36,11 +34,11 @@ use Rattle.pair_messages.specs.Meaning.{meaning_of}
 use Rattle.pair_messages.specs.Hear.{side_of}
 use Rattle.pair_messages.proofs.Accepted.{Accepted, accepted}
 use Rattle.pair_messages.proofs.SmallBodies.{small-body}
-use Rattle.pair_messages.proofs.Received.{Plain, length-passes, no-refusal, not_late, sent-plain, may-come, whole}
+use Rattle.pair_messages.proofs.Received.{Plain, length-passes, no-refusal, sent-plain, may-come, whole}
 use Rattle.pair_messages.proofs.Read.{message-read}
 use Rattle.cipher_talk.specs.Drain.{Got, message, got_of}
 use Rattle.cipher_talk.specs.Comes.{Fine, Comes, words, takes}
-use Rattle.cipher_talk.specs.Ends.{Said, front, answer_to, sender, says, meant_by, meant, Fit, AllFit, fin_said}
+use Rattle.cipher_talk.specs.Ends.{Said, front, answer_to, sender, says, meant_by, meant, Fit, AllFit}
 use Rattle.cipher_talk.proofs.Low.{small-packet, fours-add}
 
 -- two open, ciphered links, of which k waits for l's next packet
@@ -53,7 +51,6 @@ pub record Speaks (l k : Link) : Type 0 where
   pub not_closed : l.closed ≡ false
   pub number : l.sends < 2 ^ 32
   pub sides : k.set.server ≡ not l.set.server
-  pub fin : k.theirfin ≡ l.ourfin
 
 -- what l and k have become, by packets from l to k
 pub record Along (l k l2 k2 : Link) : Type 0 where
@@ -62,11 +59,9 @@ pub record Along (l k l2 k2 : Link) : Type 0 where
   pub phase : k2.phase ≡ k.phase
   pub sends : k2.sends ≡ k.sends
   pub closed : k2.closed ≡ k.closed
-  pub theirs : l2.theirfin ≡ l.theirfin
-  pub ours : k2.ourfin ≡ k.ourfin
 
 along-none : {l k : Link} → Speaks l k → Along l k l k
-along-none s = record { speaks = s; back = λ a. a; phase = refl; sends = refl; closed = refl; theirs = refl; ours = refl }
+along-none s = record { speaks = s; back = λ a. a; phase = refl; sends = refl; closed = refl }
 
 along-more : {l k l2 k2 l3 k3 : Link} → Along l k l2 k2 → Along l2 k2 l3 k3 → Along l k l3 k3
 along-more a b =
@@ -76,8 +71,6 @@ along-more a b =
       phase = b.phase ∙ a.phase;
       sends = b.sends ∙ a.sends;
       closed = b.closed ∙ a.closed;
-      theirs = b.theirs ∙ a.theirs;
-      ours = b.ours ∙ a.ours;
     }
 
 -- ---- an open, ciphered link is padded
@@ -109,37 +102,6 @@ module _ (l : Link) (over : 4 ≤ l.stage) (ciphered : l.ciphered ≡ true) wher
   unfolding phase_after
   counted n = rw pads
 
--- ---- clocks at which a message does not close the other end's link
-
-abbrev pub Stay : (Moment → Type 0) → Said → Type 0
-Stay B s = (m : Moment) → B m → eqb (kind_of s.message) 0xa8ddbc46 ≡ true → m.inflight ≡ 0 → ⊥
-
-abbrev pub AllStay : (Moment → Type 0) → List Said → Type 0
-AllStay B [] = Unit {0}
-AllStay B (s ∷ ss) = Stay B s × AllStay B ss
-
--- those of a turn are such
-pub all_stay : (B : Moment → Type 0) (ss : List Said) → ((m : Moment) → B m → fin_said ss ≡ true → m.inflight ≡ 0 → ⊥)
-    → AllStay B ss
-all_stay B [] h = tt
-all_stay B (s ∷ ss) h = (
-  (λ m i e. h m i (ap (λ (b : Bool). b || fin_said ss) e)),
-  all_stay B ss (λ m i e.
-      h m i (ap (λ (b : Bool). eqb (kind_of s.message) 0xa8ddbc46 || b) e ∙ either (eqb (kind_of s.message) 0xa8ddbc46))),
-)
-
-still_open : (k : Link) (kind : ℕ) (m : Moment) → (eqb kind 0xa8ddbc46 ≡ true → m.inflight ≡ 0 → ⊥)
-    → closed_after k kind m ≡ k.closed
-unfolding closed_after
-still_open k kind m h = go (eqb kind 0xa8ddbc46) (not k.set.server) (eqb m.inflight 0) refl refl
-  where
-    go : (x y z : Bool) → eqb kind 0xa8ddbc46 ≡ x → eqb m.inflight 0 ≡ z
-        → pick (x && (y && z)) true k.closed ≡ k.closed
-    go false y z ex ez = refl
-    go true false z ex ez = refl
-    go true true false ex ez = refl
-    go true true true ex ez = absurd (h ex (eqb-true m.inflight 0 ez))
-
 -- ---- one message
 
 module _ (l k : Link) (s : Said) (n : ℕ) (e : answer_to l s ≡ Written n) where
@@ -149,22 +111,22 @@ module _ (l k : Link) (s : Said) (n : ℕ) (e : answer_to l s ≡ Written n) whe
   abbrev body : List ℕ
   body = body_of s.message s.payload
 
-  abbrev known : Accepted l s.message s.payload s.here (length s.buffer) n
-  known = accepted l s.message s.payload s.here (length s.buffer) n e
+  abbrev known : Accepted l s.message s.payload (length s.buffer) n
+  known = accepted l s.message s.payload (length s.buffer) n e
 
   abbrev plain : Plain kind
-  plain = sent-plain l k s.message s.payload s.buffer s.here n e
+  plain = sent-plain l k s.message s.payload s.buffer n e
 
   sender-is : sender l s ≡ sent_of l kind 0 n
   unfolding message_step
   sender-is = ap (λ (x : Sent). (step_by l kind 0 x).link) e
 
-  front-is : front (answer_to l s) (message_buffer l s.message s.payload s.here s.buffer) ≡ packet_of l kind body
+  front-is : front (answer_to l s) (message_buffer l s.message s.payload s.buffer) ≡ packet_of l kind body
   front-is =
       let p = packet_of l kind body in
-      let b = message_buffer l s.message s.payload s.here s.buffer in
+      let b = message_buffer l s.message s.payload s.buffer in
       ap (λ (x : Sent). front x b) e
-      ∙ (ap (take n) (whole l k s.message s.payload s.buffer s.here n e)
+      ∙ (ap (take n) (whole l k s.message s.payload s.buffer n e)
       ∙ take_at p (drop (length p) s.buffer) n (omega (arith, length-packet l kind body, known.size)))
 
   -- the other side reads it as it was meant
@@ -182,29 +144,26 @@ module _ (l k : Link) (s : Said) (n : ℕ) (e : answer_to l s ≡ Written n) whe
       ∙ (ap (λ (x : Message). message x (part_of body x) ∷ []) (sym a)
       ∙ sym (simp (plain.nonce, plain.handshake, plain.ping, plain.pong))))
 
-  fine : (B : Moment → Type 0) → Stay B s → Speaks l k → Fit s → Fine B k l kind body
-  fine B st j f =
+  fine : Speaks l k → Fit s → Fine k l kind body
+  fine j f =
       record {
         awaited = j.waits;
         long = length-passes k j.open_k (length body) known.short;
-        allowed = may-come l k s.message s.payload s.buffer s.here n e j.open_k;
+        allowed = may-come l k s.message s.payload s.buffer n e j.open_k;
         number = j.number;
         short = omega (arith, known.short);
         kind_fits = plain.fits;
         bytes = small-body s.message s.payload f.bytes;
-        taken = λ m. no-refusal k kind body m plain
-            (not_late l k s.message s.here known.way known.early j.fin);
-        stays = λ m i. still_open k kind m (st m i);
+        taken = λ m. no-refusal k kind body m plain;
       }
 
-  steps : Speaks l k → (m : Moment) → closed_after k kind m ≡ k.closed
-      → Along l k (sent_of l kind 0 n) (after_of k kind body m)
-  unfolding sent_of after_of ciphered_after their_fin_after our_fin_sent
-  steps j m still =
-      let may = may-come l k s.message s.payload s.buffer s.here n e j.open_k in
+  steps : Speaks l k → (m : Moment) → Along l k (sent_of l kind 0 n) (after_of k kind body m)
+  unfolding sent_of after_of ciphered_after
+  steps j m =
+      let may = may-come l k s.message s.payload s.buffer n e j.open_k in
       record {
         speaks = record {
-          waits = awaits-again k l j.open_k j.open_l kind 0 n body m may still j.waits;
+          waits = awaits-again k l j.open_k j.open_l kind 0 n body m may j.waits;
           open_l = rw (stays l.stage j.open_l) j.open_l;
           open_k = rw (stays k.stage j.open_k) j.open_k;
           ciphered-l = j.ciphered-l;
@@ -212,14 +171,11 @@ module _ (l k : Link) (s : Said) (n : ℕ) (e : answer_to l s ≡ Written n) whe
           not_closed = j.not_closed;
           number = omega arith;
           sides = j.sides;
-          fin = rw (j.sides, j.fin);
         };
         back = λ a. awaits-still k l j.open_k j.open_l kind 0 n body m may a;
         phase = refl;
         sends = refl;
-        closed = still;
-        theirs = refl;
-        ours = refl;
+        closed = refl;
       }
 
 -- ---- one message and the others
@@ -261,7 +217,7 @@ module _ (l k : Link) (s : Said) (ss : List Said) where
     bytes_same : (says l (s ∷ ss)).bytes ≡ (says l ss).bytes
     unfolding says
     bytes_same =
-        let b = message_buffer l s.message s.payload s.here s.buffer in
+        let b = message_buffer l s.message s.payload s.buffer in
         ap (λ (x : Sent). front x b ++ (says (sender l s) ss).bytes) e
         ∙ ap (λ (x : Link). (says x ss).bytes) sender-same
 
@@ -331,16 +287,16 @@ sizes (s ∷ ss) l o c h f =
 
 -- ---- all of them, with w words before them, and e words behind
 
-pub record Run (B : Moment → Type 0) (l k : Link) (ss : List Said) (w e : ℕ) : Type 0 where
+pub record Run (l k : Link) (ss : List Said) (w e : ℕ) : Type 0 where
   pub link : Link
   pub left : ℕ
   pub few : left ≤ 3
-  pub comes : Comes B k (fours_of w ++ ((says l ss).bytes ++ fours_of e)) (meant l ss) link (fours_of left)
+  pub comes : Comes k (fours_of w ++ ((says l ss).bytes ++ fours_of e)) (meant l ss) link (fours_of left)
   pub along : Along l k (says l ss).link link
 
-run_none : (B : Moment → Type 0) (l k : Link) → Speaks l k → (w e : ℕ) → w + e ≤ 3 → Run B l k [] w e
+run_none : (l k : Link) → Speaks l k → (w e : ℕ) → w + e ≤ 3 → Run l k [] w e
 unfolding says meant
-run_none B l k j w e few =
+run_none l k j w e few =
     let three = three-words k j.open_k j.ciphered-k in
     record {
       link = k;
@@ -354,13 +310,13 @@ nothing_said : (l : Link) → (says l []).bytes ≡ []
 unfolding says
 nothing_said l = refl
 
-run-takes : (B : Moment → Type 0) (l k : Link) (s : Said) (ss : List Said) (n : ℕ) → answer_to l s ≡ Written n → Speaks l k
-    → Fit s → Stay B s → (m : Moment) → B m → (w e : ℕ) → w ≤ 3
-    → Run B (sent_of l (kind_of s.message) 0 n)
+run-takes : (l k : Link) (s : Said) (ss : List Said) (n : ℕ) → answer_to l s ≡ Written n → Speaks l k → Fit s
+    → (m : Moment) (w e : ℕ) → w ≤ 3
+    → Run (sent_of l (kind_of s.message) 0 n)
     (after_of k (kind_of s.message) (body_of s.message s.payload) m) ss 0 e
-    → Run B l k (s ∷ ss) w e
+    → Run l k (s ∷ ss) w e
 unfolding fours_of
-run-takes B l k s ss n q j f st m i w e hw r =
+run-takes l k s ss n q j f m w e hw r =
     let kind = kind_of s.message in
     let body = body_of s.message s.payload in
     let l2 = sent_of l kind 0 n in
@@ -373,13 +329,13 @@ run-takes B l k s ss n q j f st m i w e hw r =
       link = r.link;
       left = r.left;
       few = r.few;
-      comes = rw (b, meant-on l k s ss n q j.sides f) (takes {l = l} w m i h (fine l k s n q B st j f) r.comes);
-      along = rw (link_on l k s ss n q) (along-more (steps l k s n q j m (still_open k kind m (st m i))) r.along);
+      comes = rw (b, meant-on l k s ss n q j.sides f) (takes {l = l} w m h (fine l k s n q j f) r.comes);
+      along = rw (link_on l k s ss n q) (along-more (steps l k s n q j m) r.along);
     }
 
-run-skips : (B : Moment → Type 0) (l k : Link) (s : Said) (ss : List Said) (r : ℕ) → answer_to l s ≡ Refused r → (w e : ℕ)
-    → Run B l k ss w e → Run B l k (s ∷ ss) w e
-run-skips B l k s ss r q w e i =
+run-skips : (l k : Link) (s : Said) (ss : List Said) (r : ℕ) → answer_to l s ≡ Refused r → (w e : ℕ) → Run l k ss w e
+    → Run l k (s ∷ ss) w e
+run-skips l k s ss r q w e i =
     record {
       link = i.link;
       left = i.left;
@@ -388,23 +344,22 @@ run-skips B l k s ss r q w e i =
       along = rw (link-same l k s ss r q) i.along;
     }
 
-pub run : (B : Moment → Type 0) (ss : List Said) (l k : Link) → Speaks l k → AllFit ss → AllStay B ss → (m : Moment) → B m
-    → (w e : ℕ) → w ≤ 3 → e ≤ 3 → ((says l ss).bytes ≡ [] → w + e ≤ 3) → Run B l k ss w e
-run B [] l k j f st m i w e hw he few = run_none B l k j w e (few (nothing_said l))
-run B (s ∷ ss) l k j f st m i w e hw he few =
-    go (answer_to l s) refl (λ l2 k2 j2 w2 h2 few2. run B ss l2 k2 j2 f.1 st.1 m i w2 e h2 he few2)
+pub run : (ss : List Said) (l k : Link) → Speaks l k → AllFit ss → (m : Moment) (w e : ℕ) → w ≤ 3 → e ≤ 3
+    → ((says l ss).bytes ≡ [] → w + e ≤ 3) → Run l k ss w e
+run [] l k j f m w e hw he few = run_none l k j w e (few (nothing_said l))
+run (s ∷ ss) l k j f m w e hw he few =
+    go (answer_to l s) refl (λ l2 k2 j2 w2 h2 few2. run ss l2 k2 j2 f.1 m w2 e h2 he few2)
   where
     go : (x : Sent) → answer_to l s ≡ x
         → ((l2 k2 : Link) → Speaks l2 k2 → (w2 : ℕ) → w2 ≤ 3 → ((says l2 ss).bytes ≡ [] → w2 + e ≤ 3)
-        → Run B l2 k2 ss w2 e)
-        → Run B l k (s ∷ ss) w e
+        → Run l2 k2 ss w2 e)
+        → Run l k (s ∷ ss) w e
     go (Written n) q ih =
         let kind = kind_of s.message in
         let body = body_of s.message s.payload in
         let l2 = sent_of l kind 0 n in
         let k2 = after_of k kind body m in
-        let a = steps l k s n q j m (still_open k kind m (st.0 m i)) in
-        run-takes B l k s ss n q j f.0 st.0 m i w e hw
-        (ih l2 k2 a.speaks 0 (omega arith) (λ z. omega arith))
+        let a = steps l k s n q j m in
+        run-takes l k s ss n q j f.0 m w e hw (ih l2 k2 a.speaks 0 (omega arith) (λ z. omega arith))
     go (Refused r) q ih =
-        run-skips B l k s ss r q w e (ih l k j w hw (λ z. few (bytes_same l k s ss r q ∙ z)))
+        run-skips l k s ss r q w e (ih l k j w hw (λ z. few (bytes_same l k s ss r q ∙ z)))

@@ -22,10 +22,9 @@ use Rattle.cipher_talk.specs.Drain.{Got, Piece}
 use Rattle.cipher_talk.specs.Comes.{Comes}
 use Rattle.cipher_talk.specs.Ends.{End, Said, Wrote, says, meant, flushed, Out}
 use Rattle.cipher_talk.specs.Ends.{goes_out, Cut, cut_by, In, all_in, AllDone}
-use Rattle.cipher_talk.specs.Ends.{Turn, out_of, in_of, heard_in, meant_in, AllFit, Lasting, AllLasting, AllSound, Meets}
+use Rattle.cipher_talk.specs.Ends.{Turn, out_of, in_of, heard_in, meant_in, AllFit, AllSound, Meets}
 use Rattle.cipher_talk.proofs.Low.{low-bytes, small-fours}
-use Rattle.cipher_talk.proofs.Says.{Speaks, padded, pads, AllStay, all_stay, Size, sizes, Run, run}
-use Rattle.cipher_talk.proofs.Pieces.{AllAt}
+use Rattle.cipher_talk.proofs.Says.{Speaks, padded, pads, Size, sizes, Run, run}
 use Rattle.cipher_talk.proofs.Flushes.{Kept, kept, level-again, flushed-is, blocks, due-is, begun}
 use Rattle.cipher_talk.proofs.Carried.{arrived, none-refused, carries}
 
@@ -36,35 +35,13 @@ other true true e = let z : ◌≡◌ {A = ℕ} 0 1 = cc in absurd (omega arith)
 other false false e = let z : ◌≡◌ {A = ℕ} 0 1 = cc in absurd (omega arith)
 
 -- the same bytes
-pub same_bytes : {B : Moment → Type 0} {k k2 : Link} {s u t : List ℕ} {gs : List Got} → u ≡ s → Comes B k s gs k2 t
-    → Comes B k u gs k2 t
+pub same_bytes : {k k2 : Link} {s u t : List ℕ} {gs : List Got} → u ≡ s → Comes k s gs k2 t → Comes k u gs k2 t
 same_bytes e c = rw e c
-
--- the clocks of a turn are those of its pieces
-at_last : (ss : List Said) (cs : List Cut) (last : Moment) → AllLasting ss cs last → Lasting ss last
-at_last ss [] last h = h
-at_last ss (c ∷ cs) last h = at_last ss cs last h.1
-
-cut_at : (ss : List Said) (cs : List Cut) (last : Moment) (s : List ℕ) → AllLasting ss cs last
-    → AllAt (Lasting ss) (cut_by cs last s)
-unfolding cut_by
-cut_at ss [] last s h = (h, tt)
-cut_at ss (c ∷ cs) last s h = (h.0, cut_at ss cs last _ h.1)
 
 -- ---- one turn, from a to b
 
 module _ (a b : End) (ss : List Said) (room : List ℕ) (cs : List Cut) (last : Moment) (j : Meets a b) (f : AllFit ss)
-    (r : 12 ≤ length room) (lasts : AllLasting ss cs last) where
-  -- the clocks of this turn
-  abbrev B : Moment → Type 0
-  B = Lasting ss
-
-  lasting : B last
-  lasting = at_last ss cs last lasts
-
-  stay : AllStay B ss
-  stay = all_stay B ss (λ m i. i)
-
+    (r : 12 ≤ length room) where
   speaks : Speaks a.link b.link
   speaks =
       record {
@@ -76,7 +53,6 @@ module _ (a b : End) (ss : List Said) (room : List ℕ) (cs : List Cut) (last : 
         not_closed = j.not_closed;
         number = j.number;
         sides = j.sides;
-        fin = j.fin;
       }
 
   abbrev w : Wrote
@@ -89,8 +65,8 @@ module _ (a b : End) (ss : List Said) (room : List ℕ) (cs : List Cut) (last : 
   size = sizes ss a.link j.open_a j.ciphered_a (omega (arith, j.level)) f
 
   -- the run without its words, for what holds of the link after the calls
-  open-run : Run B a.link b.link ss 0 0
-  open-run = run B ss a.link b.link speaks f stay last lasting 0 0 (omega arith) (omega arith) (λ z. omega arith)
+  open-run : Run a.link b.link ss 0 0
+  open-run = run ss a.link b.link speaks f last 0 0 (omega arith) (omega arith) (λ z. omega arith)
 
   abbrev after : Speaks w.link open-run.link
   after = open-run.along.speaks
@@ -104,8 +80,8 @@ module _ (a b : End) (ss : List Said) (room : List ℕ) (cs : List Cut) (last : 
       let z : length w.bytes ≡ 0 = ap length e in
       omega (arith, due, size.phase, j.level, j.few)
 
-  the-run : Run B a.link b.link ss j.words words
-  the-run = run B ss a.link b.link speaks f stay last lasting j.words words j.few (due-small w.link) fits
+  the-run : Run a.link b.link ss j.words words
+  the-run = run ss a.link b.link speaks f last j.words words j.few (due-small w.link) fits
 
   -- ---- what goes out
 
@@ -143,7 +119,7 @@ module _ (a b : End) (ss : List Said) (room : List ℕ) (cs : List Cut) (last : 
 
   -- ---- what comes in
 
-  comes : Comes B b.link (b.held ++ clear) (meant a.link ss) the-run.link (fours_of the-run.left)
+  comes : Comes b.link (b.held ++ clear) (meant a.link ss) the-run.link (fours_of the-run.left)
   comes =
       same_bytes
       (ap (λ (x : List ℕ). x ++ clear) j.held ∙ ap (λ (x : List ℕ). fours_of j.words ++ x) clear-is)
@@ -154,8 +130,7 @@ module _ (a b : End) (ss : List Said) (room : List ℕ) (cs : List Cut) (last : 
 
   in_is : all_in b (cut_by cs last (goes_out a ss room).bytes)
       ≡ arrived b (record { link = the-run.link; got = meant a.link ss; left = fours_of the-run.left }) vector
-  in_is = rw ciphered-is (carries b clear j.key_is j.vector_is j.in_keys j.vectors low whole cs last
-      (cut_at ss cs last (encipher_buffer (keys j.key) a.outward.vector clear) lasts) comes)
+  in_is = rw ciphered-is (carries b clear j.key_is j.vector_is j.in_keys j.vectors low whole cs last comes)
 
   -- ---- and both go on
 
@@ -195,7 +170,6 @@ module _ (a b : End) (ss : List Said) (room : List ℕ) (cs : List Cut) (last : 
         not_closed = same.closed ∙ runs.not_closed;
         number = rw same.sends runs.number;
         sides = runs.sides ∙ ap not (sym same.server);
-        fin = runs.fin ∙ sym same.ours;
       }
 
   -- the other one is as it was
@@ -223,7 +197,6 @@ module _ (a b : End) (ss : List Said) (room : List ℕ) (cs : List Cut) (last : 
         not_closed = the-run.along.closed ∙ i.not_closed;
         number = rw the-run.along.sends i.number;
         sides = other _ _ (runs.sides ∙ ap not (sym same.server));
-        fin = same.theirs ∙ (the-run.along.theirs ∙ (i.fin ∙ sym the-run.along.ours));
       }
 
   -- A TURN IS HEARD: what b gets is what a meant, in order, and the two ends meet again; in the other direction too,
@@ -250,12 +223,12 @@ all-turns-heard a b (t ∷ ts) m n ok = go t.first (λ a2 b2 m2 n2. all-turns-he
         (meant a.link t.said ++ meant_in (out_of a t).end (in_of a b t).end ts)
         (meant b.link t.said ++ meant_in (in_of b a t).end (out_of b t).end ts)
     go true rest =
-        let h = turn-heard a b t.said t.room t.cuts t.last m ok.0.fit ok.0.room ok.0.lasts in
+        let h = turn-heard a b t.said t.room t.cuts t.last m ok.0.fit ok.0.room in
         ap (λ (x : List Got). x ++ heard_in (out_of a t).end (in_of a b t).end ts) h.0
         ∙ ap (λ (x : List Got). meant a.link t.said ++ x)
         (rest (out_of a t).end (in_of a b t).end h.1 (h.2 n))
     go false rest =
-        let h = turn-heard b a t.said t.room t.cuts t.last n ok.0.fit ok.0.room ok.0.lasts in
+        let h = turn-heard b a t.said t.room t.cuts t.last n ok.0.fit ok.0.room in
         ap (λ (x : List Got). x ++ heard_in (in_of b a t).end (out_of b t).end ts) h.0
         ∙ ap (λ (x : List Got). meant b.link t.said ++ x)
         (rest (in_of b a t).end (out_of b t).end (h.2 m) h.1)

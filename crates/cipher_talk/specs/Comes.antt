@@ -1,9 +1,7 @@
--- A run of packets as the link that they come to takes them, at clocks (with their counts in flight) at which none of
--- them closes it. Assumes nothing.
+-- A run of packets as the link that they come to takes them. Assumes nothing.
 use Rattle.std.specs.Prelude.{◌≡◌, true, false, List, [], ◌∷◌, ◌++◌, ℕ, ◌+◌, ◌≤◌, ◌<◌, ◌^◌, length, get_or}
 use Rattle.link_state.specs.declared.Link.{Link}
 use Rattle.link_state.specs.declared.Moment.{Moment}
-use Rattle.link_fins.specs.Fins.{closed_after}
 use Rattle.packet.specs.Allowed.{allowed_of}
 use Rattle.packet_padding.specs.Padding.{words_allowed, fours_of}
 use Rattle.packet_head.specs.Head.{length_refusal}
@@ -15,13 +13,8 @@ use Rattle.pair.specs.Awaits.{Awaits}
 use Rattle.pair_messages.specs.Hear.{side_of}
 use Rattle.cipher_talk.specs.Drain.{Got, got_of, theirs}
 
--- any clock
-abbrev pub Any : Moment → Type 0
-Any m = Unit {0}
-
--- l's next packet, of this type and with this body, is one that k waits for and takes, at any clock, and that does not
--- close k at a clock of B
-pub record Fine (B : Moment → Type 0) (k l : Link) (kind : ℕ) (body : List ℕ) : Type 0 where
+-- l's next packet, of this type and with this body, is one that k waits for and takes, at any clock
+pub record Fine (k l : Link) (kind : ℕ) (body : List ℕ) : Type 0 where
   pub awaited : Awaits k l
   pub long : length_refusal k (length body + 16) ≡ 0
   pub allowed : allowed_of k kind ≡ true
@@ -30,17 +23,16 @@ pub record Fine (B : Moment → Type 0) (k l : Link) (kind : ℕ) (body : List �
   pub kind_fits : kind < 2 ^ 32
   pub bytes : (i : ℕ) → get_or body i 0 < 256
   pub taken : (m : Moment) → body_refusal k kind body m ≡ 0
-  pub stays : (m : Moment) → B m → closed_after k kind m ≡ k.closed
 
--- `Comes B k s gs k2 t`: the bytes s are packets that k takes, one after the other, as gs; it is k2 after them, and the
+-- `Comes k s gs k2 t`: the bytes s are packets that k takes, one after the other, as gs; it is k2 after them, and the
 -- bytes t are left. Before each packet stand up to as many words as k allows (what `after_of` is does not depend on the
--- clock m of B)
-pub data Comes (B : Moment → Type 0) : Link → List ℕ → List Got → Link → List ℕ → Type 0 where
+-- clock m)
+pub data Comes : Link → List ℕ → List Got → Link → List ℕ → Type 0 where
   -- words alone
-  words : {k : Link} (w : ℕ) → w ≤ words_allowed k → turn_refusal k ≡ 0 → Comes B k (fours_of w) [] k (fours_of w)
+  words : {k : Link} (w : ℕ) → w ≤ words_allowed k → turn_refusal k ≡ 0 → Comes k (fours_of w) [] k (fours_of w)
   -- any bytes, at k's turn
-  ours : {k : Link} (s : List ℕ) → theirs k ≡ false → Comes B k s [] k s
+  ours : {k : Link} (s : List ℕ) → theirs k ≡ false → Comes k s [] k s
   -- a packet of some link l, and what follows it
-  takes : {k l k2 : Link} {kind : ℕ} {body s t : List ℕ} {gs : List Got} (w : ℕ) (m : Moment) → B m → w ≤ words_allowed k
-      → Fine B k l kind body → Comes B (after_of k kind body m) s gs k2 t
-      → Comes B k (fours_of w ++ (packet_of l kind body ++ s)) (got_of (side_of k.set.server) kind body ∷ gs) k2 t
+  takes : {k l k2 : Link} {kind : ℕ} {body s t : List ℕ} {gs : List Got} (w : ℕ) (m : Moment) → w ≤ words_allowed k
+      → Fine k l kind body → Comes (after_of k kind body m) s gs k2 t
+      → Comes k (fours_of w ++ (packet_of l kind body ++ s)) (got_of (side_of k.set.server) kind body ∷ gs) k2 t

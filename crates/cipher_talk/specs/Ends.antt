@@ -1,6 +1,6 @@
 -- The two ends of a ciphered connection, as their drivers keep them, and what goes from one to the other between two
 -- flushes (document 02, A9: "the driver deciphers before a receive and enciphers after a flush"). Assumes nothing.
-use Rattle.std.specs.Prelude.{◌≡◌, Bool, true, false, not, ◌||◌, List, [], ◌∷◌, ◌++◌, ℕ, ◌*◌, ◌≤◌, ◌<◌, ◌^◌, length, take, drop, get_or, eqb}
+use Rattle.std.specs.Prelude.{◌≡◌, Bool, true, false, not, List, [], ◌∷◌, ◌++◌, ℕ, ◌*◌, ◌≤◌, ◌<◌, ◌^◌, length, take, drop, get_or}
 use Rattle.wire.specs.Choice.{pick}
 use Rattle.aes.specs.Aes.{keys}
 use Rattle.aes.specs.Back.{back_keys, back_cipher}
@@ -12,7 +12,6 @@ use Rattle.link_state.specs.declared.Moment.{Moment}
 use Rattle.packet_padding.specs.Padding.{fours_of}
 use Rattle.packet_out.specs.declared.Sent.{Sent}
 use Rattle.packet_out.specs.declared.Sent.TheVariants.{Written, Refused}
-use Rattle.message_out.specs.Outgoing.{kind_of}
 use Rattle.message_out.specs.MessageStep.{message_answer, message_step, message_buffer}
 use Rattle.message_out.specs.declared.Outgoing.{Outgoing}
 use Rattle.flush.specs.Flush.{flush_step, flush_buffer}
@@ -34,13 +33,11 @@ pub record End : Type 0 where
 
 -- ---- sending: any messages, then a flush
 
--- a message, its payload or text, the buffer that is lent to the send call, and the clock and count in flight that the
--- caller gives
+-- a message, its payload or text, and the buffer that is lent to the send call
 pub record Said : Type 0 where
   pub message : Outgoing
   pub payload : List ℕ
   pub buffer : List ℕ
-  pub here : Moment
 
 -- the bytes that a call wrote at the front of its buffer, which is b after it
 abbrev pub front : Sent → List ℕ → List ℕ
@@ -49,10 +46,10 @@ front (Refused k) b = []
 
 -- what the call for s answers, and the link after it
 abbrev pub answer_to : Link → Said → Sent
-answer_to l s = message_answer l s.message s.payload s.here (length s.buffer)
+answer_to l s = message_answer l s.message s.payload (length s.buffer)
 
 abbrev pub sender : Link → Said → Link
-sender l s = (message_step l s.message s.payload s.here (length s.buffer)).link
+sender l s = (message_step l s.message s.payload (length s.buffer)).link
 
 -- the link after all send calls, and the bytes that they wrote; a call that is refused writes none
 pub record Wrote : Type 0 where
@@ -65,7 +62,7 @@ says l (s ∷ ss) =
     let rest = says (sender l s) ss in
     record {
       link = rest.link;
-      bytes = front (answer_to l s) (message_buffer l s.message s.payload s.here s.buffer) ++ rest.bytes;
+      bytes = front (answer_to l s) (message_buffer l s.message s.payload s.buffer) ++ rest.bytes;
     }
 
 -- and what was meant: of each call that was accepted
@@ -197,34 +194,18 @@ abbrev pub AllFit : List Said → Type 0
 AllFit [] = Unit
 AllFit (s ∷ ss) = Fit s × AllFit ss
 
--- whether a server fin is among some messages
-abbrev pub fin_said : List Said → Bool
-fin_said [] = false
-fin_said (s ∷ ss) = eqb (kind_of s.message) 0xa8ddbc46 || fin_said ss
-
--- a clock at which none of them closes a link: if a server fin is among them, something is in flight (document 02, A6)
-abbrev pub Lasting : List Said → Moment → Type 0
-Lasting ss m = fin_said ss ≡ true → m.inflight ≡ 0 → ⊥
-
--- every clock at which a piece comes
-abbrev pub AllLasting : List Said → List Cut → Moment → Type 0
-AllLasting ss [] last = Lasting ss last
-AllLasting ss (c ∷ cs) last = Lasting ss c.clock × AllLasting ss cs last
-
--- of a turn: so of each message, the buffer of the flush has room for three words, and nothing closes the other end's
--- link: a conversation goes on until it does
+-- of a turn: so of each message, and the buffer of the flush has room for three words
 pub record Sound (t : Turn) : Type 0 where
   pub fit : AllFit t.said
   pub room : 12 ≤ length t.room
-  pub lasts : AllLasting t.said t.cuts t.last
 
 abbrev pub AllSound : List Turn → Type 0
 AllSound [] = Unit
 AllSound (t ∷ ts) = Sound t × AllSound ts
 
 -- of one direction, from a to b: the keys are of one AES key, the vectors are the same, a stands at a block's end, and
--- b holds the words of a's last flush and nothing else, waits for a's next packet, and has heard the fin that a has
--- sent, and no other; both links are open and ciphered
+-- b holds the words of a's last flush and nothing else, and waits for a's next packet; both links are open and
+-- ciphered
 pub record Meets (a b : End) : Type 0 where
   pub key : List ℕ
   pub key_is : Sized 32 key
@@ -244,4 +225,3 @@ pub record Meets (a b : End) : Type 0 where
   pub not_closed : a.link.closed ≡ false
   pub number : a.link.sends < 2 ^ 32
   pub sides : b.link.set.server ≡ not a.link.set.server
-  pub fin : b.link.theirfin ≡ a.link.ourfin

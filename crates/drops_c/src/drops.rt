@@ -34,25 +34,25 @@ fn peer_of(publisher: bool, number: u8) -> Peer
 }
 
 // A peer is gone: frees all its requests and writes the other end of each, link and front number for a publisher that
-// was lost, which is no longer finishing then, publisher and publisher number for a front link that closed. Whatever
-// the times ts are, it neither reads nor changes them.
+// was lost, publisher and publisher number for a front link that closed. Whatever the times ts are, it neither reads
+// nor changes them.
 #[unsafe(no_mangle)]
 pub extern "C" fn relay_gone_lent(
     masks: &mut [u64; 9],
     numbers: &[i64; 136],
-    places: &mut [u8; 136],
+    places: &[u8; 128],
     order: &mut [u8; 64],
     publisher: bool,
     number: u8,
     out: &mut [i64],
 ) -> RelayDropped
     ensures { (ts : List ℕ) → (result ≡ drop_fields (gone_of
-        (table_of masks.old numbers.now places.old order.old ts)
+        (table_of masks.old numbers.now places.now order.old ts)
         (peer_of publisher number) out.old).answer)
-        × (table_of masks.new numbers.now places.new order.new ts ≡ (gone_of
-        (table_of masks.old numbers.now places.old order.old ts)
+        × (table_of masks.new numbers.now places.now order.new ts ≡ (gone_of
+        (table_of masks.old numbers.now places.now order.old ts)
         (peer_of publisher number) out.old).table)
-        × (out.new ≡ (gone_of (table_of masks.old numbers.now places.old
+        × (out.new ≡ (gone_of (table_of masks.old numbers.now places.now
         order.old ts) (peer_of publisher number) out.old).slice) }
 {
     let peer = peer_of(publisher, number);
@@ -66,7 +66,7 @@ pub extern "C" fn relay_gone_lent(
 pub extern "C" fn relay_run_out_lent(
     masks: &mut [u64; 9],
     numbers: &[i64; 136],
-    places: &[u8; 136],
+    places: &[u8; 128],
     order: &mut [u8; 64],
     times: &mut [u64; 65],
     time: u64,

@@ -1,9 +1,9 @@
--- An ask to which 30, 12, 31 and 27 do not apply is refused by the load and the capacity alone.
+-- An ask to which 30, 12 and 31 do not apply is refused by the load and the capacity alone.
 -- Assumes nothing.
 use mathlib.Core.Path.{◌≡◌, ◌∙◌}
 use Prim.Native.Nat.{ℕ, ◌≤◌, ◌<◌}
 use native.Mathlib.Omega.{arith}
-use mathlib.Core.Bool.{true, false, ◌&&◌}
+use mathlib.Core.Bool.{false, ◌&&◌}
 use mathlib.Core.List.{[], ◌∷◌}
 use lib.Dec.{eqb, leb}
 use lib.IntN.{pos}
@@ -12,7 +12,7 @@ use borrow.Author.Tests.{le-leb, lt-leb, eq-eqb, ne_eqb}
 use Rattle.wire.specs.Choice.{first}
 use Rattle.inflight.specs.Numbers.{same}
 use Rattle.inflight.specs.Matching.{matching, load, capacity_taken}
-use Rattle.inflight.specs.Model.{Model, is_finishing, ask_refusal}
+use Rattle.inflight.specs.Model.{Model, ask_refusal}
 use Rattle.inflight.specs.declared.FrontNumber.{FrontNumber}
 use Rattle.inflight.specs.Requests.{Cancel}
 
@@ -22,27 +22,19 @@ pub ask-own : (m : Model) (l : ℕ) (n : FrontNumber) (p time : ℕ) → l < 32 
 unfolding ask_refusal
 ask-own m l n p time a b t c d = rw (lt-leb 32 l a, lt-leb 8 p b, lt-leb 4611686018427387904 time t, c, ne_eqb (length (matching (Cancel l n) m.requests)) 0 d)
 
--- 27, where 30, 12 and 31 do not apply and the publisher is finishing
-pub ask-finishing : (m : Model) (l : ℕ) (n : FrontNumber) (p time : ℕ) → l < 32 → p < 8 → time < 4611686018427387904 → same n.0 (pos 0) ≡ false
-    → length (matching (Cancel l n) m.requests) ≡ 0 → is_finishing m p ≡ true → ask_refusal m l n p time ≡ 27
-unfolding ask_refusal
-ask-finishing m l n p time a b t c d e =
-    rw (lt-leb 32 l a, lt-leb 8 p b, lt-leb 4611686018427387904 time t, c, eq-eqb (length (matching (Cancel l n) m.requests)) 0 d, e)
-
--- 30, 12, 31 and 27 do not apply
+-- 30, 12 and 31 do not apply
 pub record Applies (m : Model) (l : ℕ) (n : FrontNumber) (p time : ℕ) : Type 0 where
   pub link : l < 32
   pub publisher : p < 8
   pub clock : time < 4611686018427387904
   pub number : same n.0 (pos 0) ≡ false
   pub own : length (matching (Cancel l n) m.requests) ≡ 0
-  pub staying : is_finishing m p ≡ false
 
 module _ {m : Model} {l : ℕ} {n : FrontNumber} {p time : ℕ} (v : Applies m l n p time) where
   -- the rows that are left
   rest : ask_refusal m l n p time ≡ first ((leb 16 (load m.requests p), 32) ∷ (leb 4 (load m.requests p) && eqb (capacity_taken m.requests) 64, 33) ∷ []) 0
   unfolding ask_refusal
-  rest = rw (lt-leb 32 l v.link, lt-leb 8 p v.publisher, lt-leb 4611686018427387904 time v.clock, v.number, eq-eqb (length (matching (Cancel l n) m.requests)) 0 v.own, v.staying)
+  rest = rw (lt-leb 32 l v.link, lt-leb 8 p v.publisher, lt-leb 4611686018427387904 time v.clock, v.number, eq-eqb (length (matching (Cancel l n) m.requests)) 0 v.own)
 
   pub ask-full : 16 ≤ load m.requests p → ask_refusal m l n p time ≡ 32
   ask-full h = rest ∙ rw (le-leb 16 (load m.requests p) h)

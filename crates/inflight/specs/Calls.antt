@@ -12,18 +12,15 @@ use Rattle.inflight.specs.declared.AskAnswer.{AskAnswer}
 use Rattle.inflight.specs.declared.ReplyAnswer.{ReplyAnswer}
 use Rattle.inflight.specs.declared.CancelAnswer.{CancelAnswer}
 use Rattle.inflight.specs.declared.DropAnswer.{DropAnswer}
-use Rattle.inflight.specs.declared.FinishAnswer.{FinishAnswer}
 
 -- a call with its arguments; an ask's are link, number, publisher, time and timeout.
--- Gone, which stands for closed and lost, and run out, which brings its time, with the slice that they are lent.
--- Finish brings its publisher
+-- Gone, which stands for closed and lost, and run out, which brings its time, with the slice that they are lent
 pub data Call : Type 0 where
   ask : ℕ → FrontNumber → ℕ → ℕ → ℕ → Call
   reply : ℕ → PublisherNumber → Call
   cancel : ℕ → FrontNumber → Call
   gone : Peer → List ℤ → Call
   run_out : ℕ → List ℤ → Call
-  finish : ℕ → Call
 
 -- an old ask: "old asks have no deadline", and see no time
 abbrev pub old_ask : ℕ → FrontNumber → ℕ → Call
@@ -35,16 +32,14 @@ pub data Heard : Type 0 where
   replied : ReplyAnswer → Heard
   cancelled : CancelAnswer → Heard
   dropped : DropAnswer → List ℤ → Heard
-  finished : FinishAnswer → Heard
 
--- the table: what the contracts of the six functions say
+-- the table: what the contracts of the five functions say
 abbrev pub table_heard : Table → Call → Heard
 table_heard t (ask l n p time timeout) = asked (T.ask_of t l n p time timeout).answer
 table_heard t (reply p n) = replied (T.reply_of t p n).answer
 table_heard t (cancel l n) = cancelled (T.cancel_of t l n).answer
 table_heard t (gone peer out) = dropped (T.gone_of t peer out).answer (T.gone_of t peer out).slice
 table_heard t (run_out time out) = dropped (T.run_out_of t time out).answer (T.run_out_of t time out).slice
-table_heard t (finish p) = finished (T.finish_of t p).answer
 
 abbrev pub table_after : Table → Call → Table
 table_after t (ask l n p time timeout) = (T.ask_of t l n p time timeout).table
@@ -52,7 +47,6 @@ table_after t (reply p n) = (T.reply_of t p n).table
 table_after t (cancel l n) = (T.cancel_of t l n).table
 table_after t (gone peer out) = (T.gone_of t peer out).table
 table_after t (run_out time out) = (T.run_out_of t time out).table
-table_after t (finish p) = (T.finish_of t p).table
 
 unfoldable pub table_run : Table → List Call → List Heard
 table_run t [] = []
@@ -70,7 +64,6 @@ model_heard m (reply p n) = replied (M.reply_answer m p n)
 model_heard m (cancel l n) = cancelled (M.cancel_answer m l n)
 model_heard m (gone peer out) = dropped (M.gone_answer m peer out) (M.gone_slice m peer out)
 model_heard m (run_out time out) = dropped (M.run_out_answer m time out) (M.run_out_slice m time out)
-model_heard m (finish p) = finished (M.finish_answer p)
 
 abbrev pub model_after : Model → Call → Model
 model_after m (ask l n p time timeout) = M.ask m l n p time timeout
@@ -78,7 +71,6 @@ model_after m (reply p n) = M.reply m p n
 model_after m (cancel l n) = M.cancel m l n
 model_after m (gone peer out) = M.gone m peer out
 model_after m (run_out time out) = M.run_out m time out
-model_after m (finish p) = M.finish m p
 
 unfoldable pub model_run : Model → List Call → List Heard
 model_run m [] = []

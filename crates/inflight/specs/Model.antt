@@ -1,7 +1,7 @@
 -- The model is document 01's book. It is fed the calls' arguments alone, and shares with the table the types of
 -- requests, numbers and answers. Each call has its refusal number (0: not refused), its answer, and the model after
 -- it; a refused call changes nothing. Assumes nothing.
-use Rattle.std.specs.Prelude.{ℕ, ◌+◌, ◌*◌, max, Bool, true, false, not, ◌&&◌, List, [], ◌∷◌, ◌++◌, eqb, leb, ltb, ℤ, pos, length, get_or, set, replicate}
+use Rattle.std.specs.Prelude.{ℕ, ◌+◌, ◌*◌, max, Bool, not, ◌&&◌, List, [], ◌∷◌, ◌++◌, eqb, leb, ltb, ℤ, pos, length, get_or, set, replicate}
 use Rattle.wire.specs.Choice.{pick, first}
 use Rattle.inflight.specs.Numbers.{same, after}
 use Rattle.inflight.specs.Matching.{matching, without, load, capacity_taken, next_free, other_ends, over_front, blank}
@@ -20,24 +20,18 @@ use Rattle.inflight.specs.declared.CancelAnswer.{CancelAnswer}
 use Rattle.inflight.specs.declared.CancelAnswer.TheVariants as C
 use Rattle.inflight.specs.declared.DropAnswer.{DropAnswer}
 use Rattle.inflight.specs.declared.DropAnswer.TheVariants as D
-use Rattle.inflight.specs.declared.FinishAnswer.{FinishAnswer}
-use Rattle.inflight.specs.declared.FinishAnswer.TheVariants as N
-use Rattle.inflight.specs.declared.LoadAnswer.{LoadAnswer}
-use Rattle.inflight.specs.declared.LoadAnswer.TheVariants as L
 
 -- "it keeps its entries in the order of acceptance, and each publisher's last number": here the number after the
 -- last, so that the first number of a fresh table needs no rule of its own. "Each entry's deadline and the latest time
--- seen" (document 02, A2): the deadline stands in its request. "Which publishers are finishing" (A6)
+-- seen" (document 02, A2): the deadline stands in its request
 pub record Model : Type 0 where
   pub requests : List Request
   pub next : List PublisherNumber
   pub seen : ℕ
-  pub finishing : List Bool
 
--- "it starts empty, with the fresh table's first number as each publisher's next", "a fresh table has seen time 0", and
--- in it none is finishing
+-- "it starts empty, with the fresh table's first number as each publisher's next", and "a fresh table has seen time 0"
 unfoldable pub empty : PublisherNumber → Model
-empty n = record { requests = []; next = replicate 8 n; seen = 0; finishing = replicate 8 false }
+empty n = record { requests = []; next = replicate 8 n; seen = 0 }
 
 -- which numbers are out of range: front links 0 to 31, publishers 0 to 7
 abbrev pub no_link : ℕ → Bool
@@ -67,14 +61,10 @@ deadline_at now timeout = pick (eqb timeout 0) 0 (now + timeout)
 abbrev pub none : Key → List Request → Bool
 none k es = eqb (length (matching k es)) 0
 
--- whether a publisher is finishing
-abbrev pub is_finishing : Model → ℕ → Bool
-is_finishing m p = get_or m.finishing p false
-
--- ask: 30, 12, 31, 27, 32, 33, and 0 where it is accepted.
+-- ask: 30, 12, 31, 32, 33, and 0 where it is accepted.
 -- 30: link, publisher or time out of range. 12: the number is 0. 31: the link has that number in flight already.
--- 27: the publisher is finishing. 32: its load is 16 or more. 33: it is 4 or more, and the eight loads, each counted as
--- at least 4, add up to 64; "that publisher's load still counts in the sum"
+-- 32: the publisher's load is 16 or more. 33: it is 4 or more, and the eight loads, each counted as at least 4, add
+-- up to 64
 unfoldable pub ask_refusal : Model → ℕ → FrontNumber → ℕ → ℕ → ℕ
 ask_refusal m l n p time =
     first
@@ -83,7 +73,6 @@ ask_refusal m l n p time =
     ∷ (no_time time, 30)
     ∷ (same n.0 (pos 0), 12)
     ∷ (not (none (Cancel l n) m.requests), 31)
-    ∷ (is_finishing m p, 27)
     ∷ (leb 16 (load m.requests p), 32)
     ∷ (leb 4 (load m.requests p) && eqb (capacity_taken m.requests) 64, 33)
     ∷ [])
@@ -111,7 +100,6 @@ accept m l n p time timeout =
       requests = m.requests ++ entry m l n p time timeout ∷ [];
       next = set m.next p (after (given m p));
       seen = latest m time;
-      finishing = m.finishing;
     }
 
 -- "which is the answer"
@@ -124,8 +112,7 @@ ask m l n p time timeout = pick (eqb (ask_refusal m l n p time) 0) (accept m l n
 
 -- "strikes": the requests that a key matches are removed
 abbrev pub remove : Model → Key → Model
-remove m k =
-    record { requests = without k m.requests; next = m.next; seen = m.seen; finishing = m.finishing }
+remove m k = record { requests = without k m.requests; next = m.next; seen = m.seen }
 
 -- the request that a key matches
 abbrev pub matched : Model → Key → Request
@@ -175,6 +162,10 @@ drop_answer m range k out =
 unfoldable pub drop_slice : Model → Bool → Key → List ℤ → List ℤ
 drop_slice m range k out = pick (eqb (drop_refusal m range k out) 0) (over_front (other_ends k (matching k m.requests)) out) out
 
+-- "numbering goes on"
+unfoldable pub dropped : Model → Bool → Key → List ℤ → Model
+dropped m range k out = pick (eqb (drop_refusal m range k out) 0) (remove m k) m
+
 -- "closed all of its link, lost all of its publisher": one call "that takes the side and its number" stands for both
 -- (document 02, A4)
 abbrev pub gone_answer : Model → Peer → List ℤ → DropAnswer
@@ -183,15 +174,8 @@ gone_answer m peer out = drop_answer m (no_peer peer) (key_of peer) out
 abbrev pub gone_slice : Model → Peer → List ℤ → List ℤ
 gone_slice m peer out = drop_slice m (no_peer peer) (key_of peer) out
 
--- a publisher is finishing "until its loss is next accepted" (A6)
-abbrev pub unmark : Model → Peer → Model
-unmark m (P.Front l) = m
-unmark m (P.Publisher p) =
-    record { requests = m.requests; next = m.next; seen = m.seen; finishing = set m.finishing p false }
-
--- "numbering goes on"
-unfoldable pub gone : Model → Peer → List ℤ → Model
-gone m peer out = pick (eqb (drop_refusal m (no_peer peer) (key_of peer) out) 0) (unmark (remove m (key_of peer)) peer) m
+abbrev pub gone : Model → Peer → List ℤ → Model
+gone m peer out = dropped m (no_peer peer) (key_of peer) out
 
 -- run out "strikes the entries whose deadline is at or before" its time, or the latest time seen before it, whichever
 -- is later (document 02, A2)
@@ -206,7 +190,7 @@ run_out_slice m time out = drop_slice m (no_time time) (run_out_key m time) out
 
 -- a model that has seen a time
 abbrev pub see : Model → ℕ → Model
-see m now = record { requests = m.requests; next = m.next; seen = now; finishing = m.finishing }
+see m now = record { requests = m.requests; next = m.next; seen = now }
 
 -- its time is seen; "a refused call changes nothing there"
 unfoldable pub run_out : Model → ℕ → List ℤ → Model
@@ -214,18 +198,3 @@ run_out m time out =
     pick (eqb (drop_refusal m (no_time time) (run_out_key m time) out) 0)
     (see (remove m (run_out_key m time)) (latest m time))
     m
-
--- "marks it finishing .. marking twice changes nothing", 30 for a publisher out of range (A6)
-unfoldable pub finish_answer : ℕ → FinishAnswer
-finish_answer p = pick (no_publisher p) (N.Refused 30) N.Done
-
--- no load changes
-unfoldable pub finish : Model → ℕ → Model
-finish m p =
-    pick (no_publisher p)
-    m
-    (record { requests = m.requests; next = m.next; seen = m.seen; finishing = set m.finishing p true })
-
--- a publisher's load, told to the caller: 30, else how many entries it has
-unfoldable pub load_answer : Model → ℕ → LoadAnswer
-load_answer m p = pick (no_publisher p) (L.Refused 30) (L.Load (load m.requests p))

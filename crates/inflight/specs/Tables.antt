@@ -26,14 +26,10 @@ use Rattle.inflight.specs.declared.CancelAnswer.{CancelAnswer}
 use Rattle.inflight.specs.declared.CancelAnswer.TheVariants as C
 use Rattle.inflight.specs.declared.DropAnswer.{DropAnswer}
 use Rattle.inflight.specs.declared.DropAnswer.TheVariants as D
-use Rattle.inflight.specs.declared.FinishAnswer.{FinishAnswer}
-use Rattle.inflight.specs.declared.FinishAnswer.TheVariants as N
-use Rattle.inflight.specs.declared.LoadAnswer.{LoadAnswer}
-use Rattle.inflight.specs.declared.LoadAnswer.TheVariants as L
 
 -- masks: 0 the used slots, 1 + p those of publisher p.
 -- numbers: i the front number of slot i, 64 + i its publisher number, 128 + p the number after publisher p's last one.
--- places: i the link of slot i, 64 + i its publisher, 128 + p whether publisher p is finishing, 0 for no.
+-- places: i the link of slot i, 64 + i its publisher.
 -- order: i the place of slot i in the order of acceptance, 0 for the oldest.
 -- times: i the deadline of slot i, 0 for none; 64 the latest time seen
 pub record Table : Type 0 where
@@ -51,7 +47,7 @@ table_of ms ns ps os ts = record { masks = ms; numbers = ns; places = ps; order 
 pub record Sized (t : Table) : Type 0 where
   pub masks : length t.masks ≡ 9
   pub numbers : length t.numbers ≡ 136
-  pub places : length t.places ≡ 136
+  pub places : length t.places ≡ 128
   pub order : length t.order ≡ 64
   pub times : length t.times ≡ 65
 
@@ -88,10 +84,6 @@ fresh_masks n ms = pick (no_first n) ms (replicate 9 0)
 unfoldable pub fresh_numbers : PublisherNumber → List ℤ → List ℤ
 fresh_numbers n ns = pick (no_first n) ns (take 128 ns ++ replicate 8 n.0)
 
--- "in a fresh table none is finishing" (document 02, A6)
-unfoldable pub fresh_places : PublisherNumber → List ℕ → List ℕ
-fresh_places n ps = pick (no_first n) ps (take 128 ps ++ replicate 8 0)
-
 -- "a fresh table has seen time 0"
 unfoldable pub fresh_times : PublisherNumber → List ℕ → List ℕ
 fresh_times n ts = pick (no_first n) ts (set ts 64 0)
@@ -103,7 +95,7 @@ fresh_of t n =
       table = record {
         masks = fresh_masks n t.masks;
         numbers = fresh_numbers n t.numbers;
-        places = fresh_places n t.places;
+        places = t.places;
         order = t.order;
         times = fresh_times n t.times;
       };
@@ -134,15 +126,11 @@ unfoldable pub free_of : ℕ → ℕ → List ℤ → PublisherNumber → Publis
 free_of zero m ns n = n
 free_of (suc tries) m ns n = pick (eqb (seek (is_number ns n) (slots m)) 64) n (free_of tries m ns (after n))
 
--- whether a publisher is finishing
-abbrev pub is_finishing : List ℕ → ℕ → Bool
-is_finishing ps p = not (eqb (get_or ps (128 + p) 0) 0)
-
 -- 32 and 33, and 0 where neither applies
 unfoldable pub load_refusal : List ℕ → ℕ → ℕ
 load_refusal ms p = first ((leb 16 (load_of ms p), 32) ∷ (leb 4 (load_of ms p) && eqb (taken_of ms) 64, 33) ∷ []) 0
 
--- 30, 12, 31, 27, 32, 33, and 0 where none applies
+-- 30, 12, 31, 32, 33, and 0 where none applies
 unfoldable pub ask_refusal_of : List ℕ → List ℤ → List ℕ → ℕ → FrontNumber → ℕ → ℕ → ℕ
 ask_refusal_of ms ns ps l n p time =
     first
@@ -151,7 +139,6 @@ ask_refusal_of ms ns ps l n p time =
     ∷ (no_time time, 30)
     ∷ (same n.0 (pos 0), 12)
     ∷ (not (eqb (seek (is_front ns ps l n) (slots (get_or ms 0 0))) 64), 31)
-    ∷ (is_finishing ps p, 27)
     ∷ [])
     (load_refusal ms p)
 
@@ -306,28 +293,12 @@ drop_of t mask base out =
       slice = over_front (ends_of t.numbers t.places base (leaving t mask)) out;
     })
 
--- the places after a peer is gone: a publisher is finishing "until its loss is next accepted"
-abbrev pub unmarked : List ℕ → Peer → DropAnswer → List ℕ
-unmarked ps (P.Front l) answer = ps
-unmarked ps (P.Publisher p) (D.Count k) = set ps (128 + p) 0
-unmarked ps (P.Publisher p) (D.Refused k) = ps
-
--- what a gone peer leaves: what freeing its slots leaves, and no mark
-abbrev pub dropped_by : List ℕ → Peer → Dropped → Dropped
-dropped_by ps peer r =
-    record {
-      table =
-          table_of r.table.masks r.table.numbers (unmarked ps peer r.answer) r.table.order r.table.times;
-      answer = r.answer;
-      slice = r.slice;
-    }
-
 -- 30; else the requests in the peer's slots
 unfoldable pub gone_of : Table → Peer → List ℤ → Dropped
 gone_of t peer out =
     pick (no_peer peer)
     (record { table = t; answer = D.Refused 30; slice = out })
-    (dropped_by t.places peer (drop_of t (slots_of t.masks t.places peer) (other_at peer) out))
+    (drop_of t (slots_of t.masks t.places peer) (other_at peer) out)
 
 -- ---- run out
 
@@ -361,28 +332,3 @@ run_out_of t time out =
     (record { table = t; answer = D.Refused 30; slice = out })
     (dropped_at t.times (latest_of t.times time)
     (drop_of t (due_of t.masks t.times (latest_of t.times time)) (ends_at false) out))
-
--- ---- finish, and the load that is told
-
--- 30; else "marks it finishing"
-unfoldable pub finish_answer : ℕ → FinishAnswer
-finish_answer p = pick (no_publisher p) (N.Refused 30) N.Done
-
-unfoldable pub finish_places : List ℕ → ℕ → List ℕ
-finish_places ps p = pick (no_publisher p) ps (set ps (128 + p) 1)
-
-pub record Finished : Type 0 where
-  pub table : Table
-  pub answer : FinishAnswer
-
--- the publisher's mark and nothing else changes
-unfoldable pub finish_of : Table → ℕ → Finished
-finish_of t p =
-    record {
-      table = table_of t.masks t.numbers (finish_places t.places p) t.order t.times;
-      answer = finish_answer p;
-    }
-
--- 30; else the publisher's load
-unfoldable pub load_answer : List ℕ → ℕ → LoadAnswer
-load_answer ms p = pick (no_publisher p) (L.Refused 30) (L.Load (load_of ms p))

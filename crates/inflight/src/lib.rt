@@ -5,14 +5,12 @@
 //     masks   [u64; 9]    0 the used slots, 1 + p those of publisher p
 //     numbers [i64; 136]  i the front number of slot i, 64 + i its publisher number,
 //                         128 + p the number after publisher p's last one
-//     places  [u8; 136]   i the link of slot i, 64 + i its publisher,
-//                         128 + p whether publisher p is finishing: 0 is no
+//     places  [u8; 128]   i the link of slot i, 64 + i its publisher
 //     order   [u8; 64]    i the place of slot i in the order of acceptance, 0 the oldest
 //     times   [u64; 65]   i the deadline of slot i in ms, 0 for none; 64 the latest time seen
 //
 // Here are the types, the definitions and `fresh`, which starts a table. The calls stand above: `ask` in crate
 // `inflight_ask`, `reply` and `cancel` in `inflight_take`, `gone` in `inflight_gone`, `run_out` in `inflight_run_out`,
-// `finish` and `load`, which tells a publisher's load, in `inflight_finish`,
 // over masks and searches (`inflight_slots`, `inflight_fronts`), deadlines (`inflight_times`) and the freeing of slots
 // (`inflight_free`, `inflight_drop`). A call that neither reads nor changes the times is not lent them. Every call is
 // total: arrays that no call has made, garbage included, get the answer that its definition gives (specs/Tables.antt).
@@ -68,20 +66,6 @@ pub enum CancelAnswer {
 #[derive(Drop)]
 pub enum DropAnswer {
     Count(usize),
-    Refused(u8),
-}
-
-// A publisher is marked finishing, or refused.
-#[derive(Drop)]
-pub enum FinishAnswer {
-    Done,
-    Refused(u8),
-}
-
-// How many requests a publisher has in flight, or a refusal.
-#[derive(Drop)]
-pub enum LoadAnswer {
-    Load(usize),
     Refused(u8),
 }
 

@@ -1,6 +1,6 @@
 // A fresh table.
 ghost use Rattle.std.specs.Prelude.{◌≡◌, ◌++◌, length, take, replicate};
-ghost use Rattle.inflight.specs.Tables.{fresh_answer, fresh_masks, fresh_numbers, fresh_places, fresh_times};
+ghost use Rattle.inflight.specs.Tables.{fresh_answer, fresh_masks, fresh_numbers, fresh_times};
 
 use super::{FreshAnswer, PublisherNumber};
 use refusal::OUT_OF_RANGE;
@@ -11,10 +11,6 @@ fn nine(a: [u64; 9])
 {}
 
 fn numbered(a: [i64; 136])
-    ensures { length a ≡ 136 }
-{}
-
-fn placed(a: [u8; 136])
     ensures { length a ≡ 136 }
 {}
 
@@ -43,30 +39,16 @@ fn renumber(numbers: &mut [i64; 136], n: PublisherNumber)
     }
 }
 
-// No publisher is finishing.
-fn unmark(places: &mut [u8; 136])
-    ensures { places.new ≡ take 128 places.old ++ replicate 8 0 }
-{
-    placed(*places);
-    let mut p: usize = 0;
-    while p < 8 {
-        places[128 + p] = 0;
-        p += 1;
-    }
-}
-
-// A table starts at a first publisher number; one below 1 is refused, and the table stays. `order`, and the links,
-// publishers and deadlines of slots, stay in any case.
+// A table starts at a first publisher number; one below 1 is refused, and the table stays. `places`, `order` and the
+// deadlines of slots stay in any case.
 pub fn fresh(
     masks: &mut [u64; 9],
     numbers: &mut [i64; 136],
-    places: &mut [u8; 136],
     times: &mut [u64; 65],
     first: PublisherNumber,
 ) -> FreshAnswer
     ensures { (result ≡ fresh_answer first) × (masks.new ≡ fresh_masks first masks.old)
         × (numbers.new ≡ fresh_numbers first numbers.old)
-        × (places.new ≡ fresh_places first places.old)
         × (times.new ≡ fresh_times first times.old) }
 {
     if first.0 < 1 {
@@ -74,7 +56,6 @@ pub fn fresh(
     }
     clear(masks);
     renumber(numbers, first);
-    unmark(places);
     times[64] = 0;
     FreshAnswer::Ready
 }

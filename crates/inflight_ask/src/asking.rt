@@ -13,7 +13,7 @@ use refusal::CAPACITY_GONE;
 pub fn ask(
     masks: &mut [u64; 9],
     numbers: &mut [i64; 136],
-    places: &mut [u8; 136],
+    places: &mut [u8; 128],
     order: &mut [u8; 64],
     times: &mut [u64; 65],
     link: u8,

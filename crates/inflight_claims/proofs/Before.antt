@@ -12,13 +12,11 @@ use lib.Seq.{take-append_seam}
 use borrow.Author.Tests.{eqb-true, lt-leb}
 use Rattle.wire.specs.Choice.{pick}
 use Rattle.inflight.specs.Requests.{Request, Key, Reply, Cancel, Closed, Lost}
-use Rattle.inflight.specs.declared.Peer.{Peer}
 use Rattle.inflight.specs.declared.Peer.TheVariants as P
 use Rattle.inflight.specs.Matching.{without}
 use Rattle.inflight.specs.Model.{Model}
 use Rattle.inflight.specs.Model as M
-use Rattle.inflight.specs.Calls.{Call, Heard, ask, reply, cancel, gone, run_out, finish}
-use Rattle.inflight.specs.Calls.{model_heard, model_after, model_run}
+use Rattle.inflight.specs.Calls.{Call, Heard, ask, reply, cancel, gone, run_out, model_heard, model_after, model_run}
 use Rattle.inflight.specs.declared.FrontNumber.{FrontNumber}
 use Rattle.inflight.specs.declared.PublisherNumber.{PublisherNumber}
 use Rattle.inflight.specs.declared.FreshAnswer.{FreshAnswer}
@@ -41,7 +39,7 @@ record AsModel (t : Table) (c : Call) : Type 0 where
 model_of-store : (t : Table) (m : Model) → model_of (store t m) ≡ m
 unfolding store in_flight
 model_of-store t m =
-    ap (λ (es : List Request). record { requests = es; next = m.next; seen = m.seen; finishing = m.finishing })
+    ap (λ (es : List Request). record { requests = es; next = m.next; seen = m.seen })
     (take-append_seam m.requests (drop (length m.requests) t.requests))
 
 model_of-pick : (b : Bool) (t : Table) (m : Model) → model_of (pick b (store t m) t) ≡ pick b m (model_of t)
@@ -86,12 +84,10 @@ taken-same : (t : Table) (range : Bool) (n : ℤ) (k : Key)
 unfolding T.taken_of M.taken
 taken-same t range n k = model_of-pick (eqb (M.take_refusal (model_of t) range n k) 0) t (M.remove (model_of t) k)
 
-dropped-same : (t : Table) (range : Bool) (k : Key) (peer : Peer) (out : List ℤ)
-    → model_of (T.drop_of t range k peer out).table
-    ≡ pick (eqb (M.drop_refusal (model_of t) range k out) 0) (M.unmark (M.remove (model_of t) k) peer) (model_of t)
-unfolding T.drop_of
-dropped-same t range k peer out =
-    model_of-pick (eqb (M.drop_refusal (model_of t) range k out) 0) t (M.unmark (M.remove (model_of t) k) peer)
+dropped-same : (t : Table) (range : Bool) (k : Key) (out : List ℤ)
+    → model_of (T.drop_of t range k out).table ≡ M.dropped (model_of t) range k out
+unfolding T.drop_of M.dropped
+dropped-same t range k out = model_of-pick (eqb (M.drop_refusal (model_of t) range k out) 0) t (M.remove (model_of t) k)
 
 -- run out, whose model after it is the old one where it is refused
 run-out-table : (t : Table) (time : ℕ) (out : List ℤ)
@@ -109,7 +105,6 @@ run-out-table t time out =
           requests = without (M.run_out_key (model_of t) time) (in_flight t);
           next = t.next;
           seen = M.latest (model_of t) time;
-          finishing = t.finishing;
         }
 
     twice : (b : Bool) → pick b (pick b after (model_of t)) (model_of t) ≡ pick b after (model_of t)
@@ -118,18 +113,16 @@ run-out-table t time out =
 
 same-call : (t : Table) (c : Call) → Invariant (model_of t) → AsModel t c
 unfolding T.reply_of T.cancel_of T.closed_of T.closed_slice_of T.lost_of T.lost_slice_of T.drop_of T.drop_slice_of T.run_out_of
-    T.run_out_slice_of T.finish_of M.gone
+    T.run_out_slice_of
 same-call t (ask l n p time timeout) f =
     ask-same t l n p time timeout
     (λ e. bounded-space (in_flight t) p f.bounded (accepts (model_of t) l n p time e))
 same-call t (reply p n) f = record { answer = refl; table = taken-same t (M.no_publisher p) n.0 (Reply p n) }
 same-call t (cancel l n) f = record { answer = refl; table = taken-same t (M.no_link l) n.0 (Cancel l n) }
-same-call t (gone (P.Front l) out) f =
-    record { answer = refl; table = dropped-same t (M.no_link l) (Closed l) (P.Front l) out }
+same-call t (gone (P.Front l) out) f = record { answer = refl; table = dropped-same t (M.no_link l) (Closed l) out }
 same-call t (gone (P.Publisher p) out) f =
-    record { answer = refl; table = dropped-same t (M.no_publisher p) (Lost p) (P.Publisher p) out }
+    record { answer = refl; table = dropped-same t (M.no_publisher p) (Lost p) out }
 same-call t (run_out time out) f = record { answer = refl; table = run-out-table t time out }
-same-call t (finish p) f = record { answer = refl; table = model_of-store t (M.finish (model_of t) p) }
 
 inv-after : (t : Table) (c : Call) → Invariant (model_of t) → Invariant (model_of (table_after t c))
 inv-after t c f = subst Invariant (sym (same-call t c f).table) (inv-call (model_of t) c f)

@@ -15,7 +15,7 @@ use Rattle.inflight.specs.Numbers.{same}
 use Rattle.inflight.specs.Matching.{matches, matching, without, blank}
 use Rattle.inflight.specs.Model.{Model, ask_refusal, take_refusal, reply_answer, matched, given, deadline_at, entry}
 use Rattle.inflight.specs.Model as M
-use Rattle.inflight.specs.Tables.{Table, Sized, fresh_of}
+use Rattle.inflight.specs.Tables.{fresh_of}
 use Rattle.inflight.specs.Calls.{Call, ask, reply, run_out, asked, replied, model_heard, model_after, model_at}
 use Rattle.inflight.specs.declared.FrontNumber.{FrontNumber}
 use Rattle.inflight.specs.declared.PublisherNumber.{PublisherNumber}
@@ -399,17 +399,12 @@ module _ (first : PublisherNumber) (ranged : Ranged first) where
 
 -- ---- the table's answers
 
-pub same-answers : (t : Table) → Sized t → (n : ℕ) → 1 ≤ n → n ≤ round
-    → table_answers t (record { 0 = pos n }) ≡ model_answers (record { 0 = pos n })
-same-answers t z n a b =
-    let first : PublisherNumber = record { 0 = pos n } in
-    let r : Ranged first = record { at = n; is = refl; low = a; high = b } in
-    let l = le-ltb n 1 a in
-    fun_ext (λ before. fun_ext (λ c. heard-at before c (fresh_of t first).table (fresh-good t first z l r)
-    ∙ ap (λ (m : Model). model_heard (model_at m before) c) (fresh-model t first z l)))
-
 pub delivered : Delivered
 delivered t z n a b cs =
     let first : PublisherNumber = record { 0 = pos n } in
     let r : Ranged first = record { at = n; is = refl; low = a; high = b } in
-    subst (λ (answers : Answers). Delivery answers first cs) (sym (same-answers t z n a b)) (of-model first r cs)
+    let l = le-ltb n 1 a in
+    let same-answers : table_answers t first ≡ model_answers first =
+    fun_ext (λ before. fun_ext (λ c. heard-at before c (fresh_of t first).table (fresh-good t first z l r)
+    ∙ ap (λ (m : Model). model_heard (model_at m before) c) (fresh-model t first z l))) in
+    subst (λ (answers : Answers). Delivery answers first cs) (sym same-answers) (of-model first r cs)

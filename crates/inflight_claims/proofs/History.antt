@@ -9,20 +9,17 @@ use mathlib.Core.Bool.{Bool, true, false, not, ◌&&◌, ◌||◌, false≢true}
 use mathlib.Core.List.{List, [], ◌∷◌, ◌++◌, append_assoc, append-nil}
 use lib.Dec.{eqb}
 use lib.IntN.{ℤ}
-use lib.ListN.{set}
 use Rattle.wire.specs.Choice.{pick}
 use Rattle.inflight.specs.Matching.{matches, without}
 use Rattle.inflight.specs.Model.{Model, ask_refusal, take_refusal, drop_refusal, deadline_at, entry}
 use Rattle.inflight.specs.Model as M
 use Rattle.inflight.specs.Calls.{Call, ask, reply, cancel, gone, run_out, asked, replied, cancelled, dropped}
-use Rattle.inflight.specs.Calls.{finish, model_heard, model_after, model_at}
+use Rattle.inflight.specs.Calls.{model_heard, model_after, model_at}
 use Rattle.inflight.specs.declared.FrontNumber.{FrontNumber}
 use Rattle.inflight.specs.declared.PublisherNumber.{PublisherNumber}
 use Rattle.inflight.specs.Requests.{Request}
 use Rattle.inflight.specs.Requests.{Key}
 use Rattle.inflight.specs.Requests.{Reply, Cancel, key_of}
-use Rattle.inflight.specs.declared.Peer.{Peer}
-use Rattle.inflight.specs.declared.Peer.TheVariants as P
 use Rattle.inflight.specs.declared.AskAnswer.TheVariants as A
 use Rattle.inflight.specs.declared.ReplyAnswer.TheVariants as R
 use Rattle.inflight.specs.declared.CancelAnswer.TheVariants as C
@@ -68,36 +65,20 @@ module _ (y : Bool) (n : ℕ) where
       go true = refl
       go false = refl
 
--- a mark that goes or comes changes nothing else
-pub unmark-same : (m : Model) (peer : Peer) → M.unmark m peer
-    ≡ record { requests = m.requests; next = m.next; seen = m.seen; finishing = (M.unmark m peer).finishing }
-unmark-same m (P.Front l) = refl
-unmark-same m (P.Publisher p) = refl
+-- reply, cancel, gone and run out, over the key: y says that the call is not refused, r that it is; after it the time
+-- `now` was seen
+module _ (m : Model) (k : Key) (now : ℕ) (e : Request) where
+  abbrev left : Model
+  left = record { requests = without k m.requests; next = m.next; seen = now }
 
-pub finish-same : (m : Model) (p : ℕ) → M.finish m p
-    ≡ record { requests = m.requests; next = m.next; seen = m.seen; finishing = (M.finish m p).finishing }
-unfolding M.finish
-finish-same m p = go (M.no_publisher p)
-  where
-    marked : Model
-    marked = record { requests = m.requests; next = m.next; seen = m.seen; finishing = set m.finishing p true }
-
-    go : (b : Bool) → pick b m marked
-        ≡ record { requests = m.requests; next = m.next; seen = m.seen; finishing = (pick b m marked).finishing }
-    go true = refl
-    go false = refl
-
--- reply, cancel, gone and run out, over the key: y says that the call is not refused, r that it is; `left` is the model
--- after it
-module _ (m : Model) (k : Key) (left : Model) (same : left.requests ≡ without k m.requests) (e : Request) where
   keep-pick : (y r : Bool) → r ≡ not y → In e m.requests → not r && matches k e ≡ false → In e (pick y left m).requests
   keep-pick true true q i f = absurd (false≢true (sym q))
-  keep-pick true false q i f = subst (In e) (sym same) (in_without k e m.requests i f)
+  keep-pick true false q i f = in_without k e m.requests i f
   keep-pick false r q i f = i
 
   came-pick : (y r : Bool) → r ≡ not y → In e (pick y left m).requests → In e m.requests × (not r && matches k e ≡ false)
   came-pick true true q i = absurd (false≢true (sym q))
-  came-pick true false q i = without_in k e m.requests (subst (In e) same i)
+  came-pick true false q i = without_in k e m.requests i
   came-pick false true q i = (i, refl)
   came-pick false false q i = absurd (false≢true q)
 
@@ -135,71 +116,57 @@ module _ (m : Model) (l : ℕ) (n : FrontNumber) (p time timeout : ℕ) (e : Req
               (record { time = time; timeout = timeout; is = refl; accepted = rw q; deadline = refl })
       go false q i = inl i
 
--- a gone peer's requests are removed, and its mark
-abbrev unmarked : Model → Peer → Model
-unmarked m peer = M.unmark (M.remove m (key_of peer)) peer
-
-unmarked-requests : (m : Model) (peer : Peer) → (unmarked m peer).requests ≡ without (key_of peer) m.requests
-unmarked-requests m peer = ap (λ (x : Model). x.requests) (unmark-same (M.remove m (key_of peer)) peer)
-
 keep : (m : Model) (c : Call) (e : Request) → In e m.requests → frees m.seen e c (model_heard m c) ≡ false
     → In e (model_after m c).requests
-unfolding frees M.taken M.gone M.run_out M.reply_answer M.cancel_answer M.drop_answer
+unfolding frees M.taken M.dropped M.run_out M.reply_answer M.cancel_answer M.drop_answer
 keep m (ask l n p time timeout) e i f = keep-ask m l n p time timeout e i
 keep m (reply p n) e i f =
     let y : Bool = eqb (take_refusal m (M.no_publisher p) n.0 (Reply p n)) 0 in
-    keep-pick m (Reply p n) (M.remove m (Reply p n)) refl e y _ (reply-refused y _ _ _) i f
+    keep-pick m (Reply p n) m.seen e y _ (reply-refused y _ _ _) i f
 keep m (cancel l n) e i f =
     let y : Bool = eqb (take_refusal m (M.no_link l) n.0 (Cancel l n)) 0 in
-    keep-pick m (Cancel l n) (M.remove m (Cancel l n)) refl e y _ (cancel-refused y _ _ _) i f
+    keep-pick m (Cancel l n) m.seen e y _ (cancel-refused y _ _ _) i f
 keep m (gone peer out) e i f =
     let y : Bool = eqb (drop_refusal m (M.no_peer peer) (key_of peer) out) 0 in
-    keep-pick m (key_of peer) (unmarked m peer) (unmarked-requests m peer) e y _ (drop-refused y _ _ out) i f
+    keep-pick m (key_of peer) m.seen e y _ (drop-refused y _ _ out) i f
 keep m (run_out time out) e i f =
     let y : Bool = eqb (drop_refusal m (M.no_time time) (M.run_out_key m time) out) 0 in
-    keep-pick m (M.run_out_key m time) (M.see (M.remove m (M.run_out_key m time)) (M.latest m time)) refl e y _
-    (drop-refused y _ _ out) i f
-keep m (finish p) e i f = subst (λ (x : Model). In e x.requests) (sym (finish-same m p)) i
+    keep-pick m (M.run_out_key m time) (M.latest m time) e y _ (drop-refused y _ _ out) i f
 
 came : (m : Model) (c : Call) (e : Request) → In e (model_after m c).requests
     → (In e m.requests × (frees m.seen e c (model_heard m c) ≡ false)) ⊎ Gives m c e
-unfolding frees M.taken M.gone M.run_out M.reply_answer M.cancel_answer M.drop_answer
+unfolding frees M.taken M.dropped M.run_out M.reply_answer M.cancel_answer M.drop_answer
 came m (ask l n p time timeout) e i = ⊎_elim (λ j. inl (j, refl)) (λ g. inr g) (came-ask m l n p time timeout e i)
 came m (reply p n) e i =
     let y : Bool = eqb (take_refusal m (M.no_publisher p) n.0 (Reply p n)) 0 in
-    inl (came-pick m (Reply p n) (M.remove m (Reply p n)) refl e y _ (reply-refused y _ _ _) i)
+    inl (came-pick m (Reply p n) m.seen e y _ (reply-refused y _ _ _) i)
 came m (cancel l n) e i =
     let y : Bool = eqb (take_refusal m (M.no_link l) n.0 (Cancel l n)) 0 in
-    inl (came-pick m (Cancel l n) (M.remove m (Cancel l n)) refl e y _ (cancel-refused y _ _ _) i)
+    inl (came-pick m (Cancel l n) m.seen e y _ (cancel-refused y _ _ _) i)
 came m (gone peer out) e i =
     let y : Bool = eqb (drop_refusal m (M.no_peer peer) (key_of peer) out) 0 in
-    inl (came-pick m (key_of peer) (unmarked m peer) (unmarked-requests m peer) e y _ (drop-refused y _ _ out) i)
+    inl (came-pick m (key_of peer) m.seen e y _ (drop-refused y _ _ out) i)
 came m (run_out time out) e i =
     let y : Bool = eqb (drop_refusal m (M.no_time time) (M.run_out_key m time) out) 0 in
-    inl
-    (came-pick m (M.run_out_key m time) (M.see (M.remove m (M.run_out_key m time)) (M.latest m time)) refl e y _
-    (drop-refused y _ _ out) i)
-came m (finish p) e i = inl (subst (λ (x : Model). In e x.requests) (finish-same m p) i, refl)
+    inl (came-pick m (M.run_out_key m time) (M.latest m time) e y _ (drop-refused y _ _ out) i)
 
 -- ---- the latest time
 
 -- y says that a call is not refused, r that it is
-seen_pick : (m left : Model) (time : ℕ) (y r : Bool) → left.seen ≡ max m.seen time → r ≡ not y
-    → (pick y left m).seen ≡ pick r m.seen (max m.seen time)
-seen_pick m left time true true h q = absurd (false≢true (sym q))
-seen_pick m left time true false h q = h
-seen_pick m left time false true h q = refl
-seen_pick m left time false false h q = absurd (false≢true q)
+seen_pick : (m : Model) (es : List Request) (ns : List PublisherNumber) (time : ℕ) (y r : Bool) → r ≡ not y
+    → (pick y (record { requests = es; next = ns; seen = max m.seen time }) m).seen
+    ≡ pick r m.seen (max m.seen time)
+seen_pick m es ns time true true q = absurd (false≢true (sym q))
+seen_pick m es ns time true false q = refl
+seen_pick m es ns time false true q = refl
+seen_pick m es ns time false false q = absurd (false≢true q)
 
 -- a call that brings no time
-same_seen : (s : ℕ) (r : Bool) → s ≡ pick r s (max s 0)
-same_seen s true = refl
-same_seen s false = omega arith
-
-same-pick : (m left : Model) (y r : Bool) → left.seen ≡ m.seen
-    → (pick y left m).seen ≡ pick r m.seen (max m.seen 0)
-same-pick m left true r h = h ∙ same_seen m.seen r
-same-pick m left false r h = same_seen m.seen r
+same-pick : (m : Model) (k : Key) (y r : Bool) → (pick y (M.remove m k) m).seen ≡ pick r m.seen (max m.seen 0)
+same-pick m k true true = refl
+same-pick m k true false = omega arith
+same-pick m k false true = refl
+same-pick m k false false = omega arith
 
 ask-refused : (y : Bool) (n : ℕ) (x : PublisherNumber) → refused (asked (pick y (A.Accepted x) (A.Refused n))) ≡ not y
 ask-refused true n x = refl
@@ -207,25 +174,21 @@ ask-refused false n x = refl
 
 seen_step : (m : Model) (c : Call)
     → (model_after m c).seen ≡ pick (refused (model_heard m c)) m.seen (max m.seen (time_of c))
-unfolding M.ask M.accept M.ask_answer M.taken M.gone M.run_out M.drop_answer
+unfolding M.ask M.accept M.ask_answer M.taken M.dropped M.run_out M.drop_answer
 seen_step m (ask l n p time timeout) =
     let y : Bool = eqb (ask_refusal m l n p time) 0 in
-    seen_pick m (M.accept m l n p time timeout) time y _ refl (ask-refused y _ _)
+    seen_pick m _ _ time y _ (ask-refused y _ _)
 seen_step m (reply p n) =
-    same-pick m (M.remove m (Reply p n)) (eqb (take_refusal m (M.no_publisher p) n.0 (Reply p n)) 0)
-    (refused (model_heard m (reply p n))) refl
+    same-pick m (Reply p n) (eqb (take_refusal m (M.no_publisher p) n.0 (Reply p n)) 0) (refused (model_heard m (reply p n)))
 seen_step m (cancel l n) =
-    same-pick m (M.remove m (Cancel l n)) (eqb (take_refusal m (M.no_link l) n.0 (Cancel l n)) 0)
-    (refused (model_heard m (cancel l n))) refl
+    same-pick m (Cancel l n) (eqb (take_refusal m (M.no_link l) n.0 (Cancel l n)) 0)
+    (refused (model_heard m (cancel l n)))
 seen_step m (gone peer out) =
-    same-pick m (unmarked m peer) (eqb (drop_refusal m (M.no_peer peer) (key_of peer) out) 0)
+    same-pick m (key_of peer) (eqb (drop_refusal m (M.no_peer peer) (key_of peer) out) 0)
     (refused (model_heard m (gone peer out)))
-    (ap (λ (x : Model). x.seen) (unmark-same (M.remove m (key_of peer)) peer))
 seen_step m (run_out time out) =
     let y : Bool = eqb (drop_refusal m (M.no_time time) (M.run_out_key m time) out) 0 in
-    seen_pick m (M.see (M.remove m (M.run_out_key m time)) (M.latest m time)) time y _ refl (drop-refused y _ _ out)
-seen_step m (finish p) =
-    ap (λ (x : Model). x.seen) (finish-same m p) ∙ same_seen m.seen (refused (model_heard m (finish p)))
+    seen_pick m _ _ time y _ (drop-refused y _ _ out)
 
 -- ---- the list
 

@@ -7,7 +7,6 @@ pub mod Told
 pub mod Numbering
 pub mod OldAsks
 pub mod Delivery
-pub mod Finishing
 pub mod Before
 pub mod TwoCalls
 pub mod Slots

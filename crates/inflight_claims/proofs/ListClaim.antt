@@ -14,7 +14,7 @@ use mir.Val.{SFits}
 use borrow.Author.Tests.{eqb-true, eqb-false, eq-eqb, ne_eqb, le-ltb, le-leb, ltb-false}
 use Rattle.wire.specs.Choice.{pick}
 use Rattle.inflight.specs.Matching.{matching, load, capacity_taken}
-use Rattle.inflight.specs.Model.{Model, empty, is_finishing, ask_refusal, ask_answer, given}
+use Rattle.inflight.specs.Model.{Model, empty, ask_refusal, ask_answer, given}
 use Rattle.inflight.specs.Tables.{Table, Sized, fresh_of}
 use Rattle.inflight.specs.Calls.{Call, model_run, model_at}
 use Rattle.inflight.specs.declared.FrontNumber.{FrontNumber}
@@ -23,7 +23,7 @@ use Rattle.inflight.specs.declared.AskAnswer.TheVariants.{Accepted, Refused}
 use Rattle.inflight.specs.declared.FreshAnswer.TheVariants as F
 use Rattle.inflight.specs.Requests.{Reply}
 use Rattle.inflight.proofs.NumberLaws.{ne_same}
-use Rattle.inflight.proofs.AskLaws.{Applies, ask-finishing, ask-full, ask-under, ask-gone, ask-left}
+use Rattle.inflight.proofs.AskLaws.{Applies, ask-full, ask-under, ask-gone, ask-left}
 use Rattle.inflight_claims.specs.ListClaim.{Valid, Capacity, Kept, ListClaim, Listed, AllFirsts}
 use Rattle.inflight_model.proofs.Capacity.{accepts, bounded-size}
 use Rattle.inflight_model.proofs.Invariant.{Ranged, Invariant, inv_at, given-ranged, new-number}
@@ -48,18 +48,9 @@ module _ (m : Model) (l : ℕ) (n : FrontNumber) (p time : ℕ) where
       go true e h = (eqb-true (ask_refusal m l n p time) 0 e, cc)
       go false e h = let z : ◌≡◌ {A = ℕ} 0 1 = cc in absurd (omega arith)
 
--- an ask for a finishing publisher
-pub turned-away : (m : Model) (l : ℕ) (n : FrontNumber) (p time : ℕ) → Valid m l n p time → is_finishing m p ≡ true
-    → ask_answer m l n p time ≡ Refused 27
-turned-away m l n p time v e =
-    answer-no m l n p time 27
-    (ask-finishing m l n p time v.link v.publisher v.clock (ne_same n.0 (pos 0) v.number) v.own e)
-    (λ q. omega arith)
-
 -- the sentences on capacity
-pub capacity : (m : Model) (l : ℕ) (n : FrontNumber) (p time : ℕ) → Valid m l n p time → is_finishing m p ≡ false
-    → Capacity m l n p time
-capacity m l n p time v s =
+pub capacity : (m : Model) (l : ℕ) (n : FrontNumber) (p time : ℕ) → Valid m l n p time → Capacity m l n p time
+capacity m l n p time v =
     record {
       under = λ h. answer-yes m l n p time (ask-under applies h);
       taken = λ h k t. answer-no m l n p time 33 (ask-gone applies h (omega arith) t) (λ q. omega arith);
@@ -69,15 +60,7 @@ capacity m l n p time v s =
     }
   where
     applies : Applies m l n p time
-    applies =
-        record {
-          link = v.link;
-          publisher = v.publisher;
-          clock = v.clock;
-          number = ne_same n.0 (pos 0) v.number;
-          own = v.own;
-          staying = s;
-        }
+    applies = record { link = v.link; publisher = v.publisher; clock = v.clock; number = ne_same n.0 (pos 0) v.number; own = v.own }
 
     left : 4 ≤ load m.requests p → load m.requests p ≤ 15 → (capacity_taken m.requests ≡ 64 → ⊥) → ask_answer m l n p time ≡ Accepted (given m p)
     left h k t = answer-yes m l n p time (ask-left applies h (omega arith) t)
@@ -93,8 +76,7 @@ capacity m l n p time v s =
 pub kept : (m : Model) → Invariant m → Kept m
 kept m f =
     record {
-      capacity = λ l n p time v s. capacity m l n p time v s;
-      finishing = λ l n p time v e. turned-away m l n p time v e;
+      capacity = λ l n p time v. capacity m l n p time v;
       size = bounded-size m.requests f.bounded;
       most = f.bounded.most;
       within = f.bounded.within;

@@ -17,7 +17,7 @@ use Rattle.inflight.specs.Numbers.{after, same}
 use Rattle.inflight.specs.Matching.{matching, next_free}
 use Rattle.inflight.specs.Model.{Model, ask_refusal, take_refusal, drop_refusal, given}
 use Rattle.inflight.specs.Model as M
-use Rattle.inflight.specs.Calls.{Call, ask, reply, cancel, gone, run_out, finish, asked, replied, model_after, model_at}
+use Rattle.inflight.specs.Calls.{Call, ask, reply, cancel, gone, run_out, asked, replied, model_after, model_at}
 use Rattle.inflight.specs.declared.FrontNumber.{FrontNumber}
 use Rattle.inflight.specs.declared.PublisherNumber.{PublisherNumber}
 use Rattle.inflight.specs.Requests.{Request}
@@ -30,7 +30,7 @@ use Rattle.inflight_model.proofs.Flight.{top, wrap, after-wrap, wrap-apart, wrap
 use Rattle.inflight_model.proofs.Capacity.{accepts, bounded-space}
 use Rattle.inflight_model.proofs.Invariant.{Ranged, inv_at, after-ranged, new-number}
 use Rattle.inflight_claims.proofs.ListClaim.{answer-accepted}
-use Rattle.inflight_claims.proofs.History.{model_answers, at_snoc, unmark-same, finish-same}
+use Rattle.inflight_claims.proofs.History.{model_answers, at_snoc}
 
 -- ---- steps
 
@@ -175,18 +175,14 @@ module _ (first : PublisherNumber) (ranged : Ranged first) (p : ℕ) (range : p 
 
   next-step : (b : List Call) (s : ℕ) (c : Call) → next (at b) ≡ steps s first
       → next (model_after (at b) c) ≡ steps (moved (model_answers first) first p b s c) first
-  unfolding moved M.taken M.gone M.run_out
+  unfolding moved M.taken M.dropped M.run_out
   next-step b s (ask l f q time timeout) e = next-ask b s l f q time timeout e
   next-step b s (reply q x) e = keeps (at b) (eqb (take_refusal (at b) (M.no_publisher q) x.0 (Reply q x)) 0) (M.remove (at b) (Reply q x)) refl ∙ e
   next-step b s (cancel l f) e = keeps (at b) (eqb (take_refusal (at b) (M.no_link l) f.0 (Cancel l f)) 0) (M.remove (at b) (Cancel l f)) refl ∙ e
   next-step b s (gone peer out) e =
-      keeps (at b) (eqb (drop_refusal (at b) (M.no_peer peer) (key_of peer) out) 0)
-      (M.unmark (M.remove (at b) (key_of peer)) peer)
-      (ap (λ (m : Model). m.next) (unmark-same (M.remove (at b) (key_of peer)) peer))
-      ∙ e
+      keeps (at b) (eqb (drop_refusal (at b) (M.no_peer peer) (key_of peer) out) 0) (M.remove (at b) (key_of peer)) refl ∙ e
   next-step b s (run_out time out) e =
       keeps (at b) (eqb (drop_refusal (at b) (M.no_time time) (M.run_out_key (at b) time) out) 0) _ refl ∙ e
-  next-step b s (finish q) e = ap (λ (m : Model). next m) (finish-same (at b) q) ∙ e
 
   next-from : (cs b : List Call) (s : ℕ) → next (at b) ≡ steps s first
       → next (at (b ++ cs)) ≡ steps (stepped_from (model_answers first) first p b s cs) first
@@ -223,7 +219,6 @@ module _ (ans : Answers) (first : PublisherNumber) (p : ℕ) where
   moved_up b s (cancel l f) = omega arith
   moved_up b s (gone peer out) = omega arith
   moved_up b s (run_out time out) = omega arith
-  moved_up b s (finish q) = omega arith
 
   stepped_up : (cs b : List Call) (s : ℕ) → s ≤ stepped_from ans first p b s cs
   unfolding stepped_from

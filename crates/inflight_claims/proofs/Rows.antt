@@ -11,7 +11,7 @@ use borrow.Author.Tests.{eq-eqb, ne_eqb, le-leb, lt-leb, le-ltb, lt-ltb}
 use Rattle.inflight.specs.Requests.{key_of}
 use Rattle.inflight.specs.Matching.{matching}
 use Rattle.inflight.specs.Model.{Model, ask_refusal, ask_answer, take_refusal, reply_answer, cancel_answer, drop_refusal}
-use Rattle.inflight.specs.Model.{drop_answer, no_peer, run_out_key, finish_answer}
+use Rattle.inflight.specs.Model.{drop_answer, no_peer, run_out_key}
 use Rattle.inflight.specs.declared.FrontNumber.{FrontNumber}
 use Rattle.inflight.specs.declared.PublisherNumber.{PublisherNumber}
 use Rattle.inflight.specs.declared.Peer.{Peer}
@@ -19,8 +19,8 @@ use Rattle.inflight.specs.declared.Peer.TheVariants as P
 use Rattle.inflight.specs.declared.AskAnswer.TheVariants as A
 use Rattle.inflight.proofs.NumberLaws.{eq-same, ne_same}
 use Rattle.inflight.proofs.AskLaws.{ask-own}
-use Rattle.inflight_claims.proofs.ListClaim.{turned-away, capacity}
-use Rattle.inflight_claims.specs.Rows.{AskRows, ReplyRows, CancelRows, GoneRows, RunOutRows, FinishRows, Rows}
+use Rattle.inflight_claims.proofs.ListClaim.{capacity}
+use Rattle.inflight_claims.specs.Rows.{AskRows, ReplyRows, CancelRows, GoneRows, RunOutRows, Rows}
 
 ask-rows : (m : Model) (l : ℕ) (n : FrontNumber) (p time : ℕ) → AskRows m l n p time
 unfolding ask_answer ask_refusal
@@ -32,7 +32,6 @@ ask-rows m l n p time =
       zero = λ a b t e.
           rw (lt-leb 32 l a, lt-leb 8 p b, lt-leb 4611686018427387904 time t, eq-same n.0 (pos 0) e);
       own = λ a b t c d. rw (ask-own m l n p time a b t (ne_same n.0 (pos 0) c) d);
-      finishing = turned-away m l n p time;
       valid = capacity m l n p time;
     }
   where
@@ -87,10 +86,6 @@ run-out-rows m time out =
       all = λ h l. rw (lt-leb 4611686018427387904 time h, le-ltb (length out) need l);
     }
 
-finish-rows : (p : ℕ) → FinishRows p
-unfolding finish_answer
-finish-rows p = record { range = λ h. rw (le-leb 8 p h); done = λ h. rw (lt-leb 8 p h) }
-
 pub rows : (m : Model) → Rows m
 rows m =
     record {
@@ -100,5 +95,4 @@ rows m =
       front = λ l out. gone-rows m (P.Front l) 32 l out refl;
       publisher = λ p out. gone-rows m (P.Publisher p) 8 p out refl;
       run_out = run-out-rows m;
-      finish = finish-rows;
     }

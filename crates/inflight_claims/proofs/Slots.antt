@@ -8,7 +8,7 @@ use mathlib.Core.List.{List}
 use lib.Dec.{eqb, leb, ltb}
 use lib.Count.{count_trailing_zeros, trailing_of_zero, under}
 use lib.IntN.{ℤ, pos}
-use lib.ListN.{length, set}
+use lib.ListN.{length}
 use lib.Seq.{get_or-set_other}
 use mir.Syntax.{w64}
 use mir.Val.{SFits}
@@ -18,29 +18,21 @@ use Rattle.inflight.specs.Numbers.{same}
 use Rattle.inflight.specs.Matching.{load}
 use Rattle.inflight.specs.Masks.{bit_at, seek, slots, lowest_free}
 use Rattle.inflight.specs.Model.{Model, empty, no_link, no_publisher, no_peer, no_time}
-use Rattle.inflight.specs.Model as M
 use Rattle.inflight.specs.Requests.{Request}
 use Rattle.inflight.specs.Tables.{Table, Sized, table_of, used, mine, placed, given_of, struck, freed, slots_of, leaving}
 use Rattle.inflight.specs.Tables.{is_number, is_front, ask_refusal_of, fresh_of, ask_of, reply_of, cancel_of, other_at, drop_of}
 use Rattle.inflight.specs.Tables.{Asked, Replied, Cancelled, Dropped, gone_of, ends_at, latest_of, due_of, dropped_at, run_out_of}
-use Rattle.inflight.specs.Tables.{unmarked, dropped_by, finish_places, finish_of, load_answer}
-use Rattle.inflight.specs.Calls.{Call, ask, reply, cancel, gone, run_out, finish, table_at, model_at}
+use Rattle.inflight.specs.Calls.{Call, ask, reply, cancel, gone, run_out, table_at, model_at}
 use Rattle.inflight.specs.declared.FrontNumber.{FrontNumber}
 use Rattle.inflight.specs.declared.PublisherNumber.{PublisherNumber}
 use Rattle.inflight.specs.declared.FreshAnswer.TheVariants as F
-use Rattle.inflight.specs.declared.Peer.{Peer}
-use Rattle.inflight.specs.declared.Peer.TheVariants as P
-use Rattle.inflight.specs.declared.DropAnswer.{DropAnswer}
-use Rattle.inflight.specs.declared.DropAnswer.TheVariants as D
-use Rattle.inflight.specs.declared.LoadAnswer.TheVariants as L
 use Rattle.inflight.proofs.MaskLaws.{twice}
 use Rattle.inflight_tied.proofs.Tied.{in_flight, model_of}
 use Rattle.inflight_tied.proofs.Loads.{load-ones, length-standing}
 use Rattle.inflight_tied.proofs.Placed.{free-slot}
 use Rattle.inflight_tied.proofs.Asks.{numbers-old, places-old, deadline-old}
 use Rattle.inflight_tied.proofs.Simulated.{Stays, stays, ready-not-below, fresh-good, fresh-model}
-use Rattle.inflight_claims.specs.Slots.{LoadsByMasks, LoadsTold, UsedByMask, SeenByTimes, LowestSlot}
-use Rattle.inflight_claims.specs.Slots.{Unmoved, NeverMoves}
+use Rattle.inflight_claims.specs.Slots.{LoadsByMasks, UsedByMask, SeenByTimes, LowestSlot, Unmoved, NeverMoves}
 use Rattle.inflight_claims.proofs.ListClaim.{ready-ranged}
 
 -- ---- along the list the table is tied, and reads as the model
@@ -62,15 +54,6 @@ pub loads-by-masks : LoadsByMasks
 loads-by-masks t z first f r cs p h =
     load-ones (table_at (fresh_of t first).table cs) (along t z first f r cs).good.kept.tied p h
     ∙ ap (λ (es : List Request). load es p) (as-model t z first f r cs)
-
-pub loads-told : LoadsTold
-unfolding load_answer M.load_answer
-loads-told t z first f r cs p = go (no_publisher p) refl
-  where
-    go : (x : Bool) → no_publisher p ≡ x
-        → load_answer (table_at (fresh_of t first).table cs).masks p ≡ M.load_answer (model_at (empty first) cs) p
-    go true e = rw e
-    go false e = rw e (ap L.Load (loads-by-masks t z first f r cs p (leb-false 8 p e)))
 
 pub used-by-mask : UsedByMask
 used-by-mask t z first f r cs =
@@ -135,38 +118,11 @@ module _ (t : Table) (i : ℕ) where
         deadline = deadline-old t l n p s g time timeout i h d;
       }
 
-  -- a mark stands behind what slots hold
-  mark-stay : {ms os : List ℕ} (p b : ℕ) → i < 64
-      → Unmoved t (table_of ms t.numbers (set t.places (128 + p) b) os t.times) i
-  mark-stay p b h =
-      record {
-        front = refl;
-        number = refl;
-        link = get_or-set_other t.places (128 + p) i b 0 (λ e. omega arith);
-        publisher = get_or-set_other t.places (128 + p) (64 + i) b 0 (λ e. omega arith);
-        deadline = refl;
-      }
-
-  unmarked-stay : {ms os : List ℕ} (peer : Peer) (a : DropAnswer) → i < 64
-      → Unmoved t (table_of ms t.numbers (unmarked t.places peer a) os t.times) i
-  unmarked-stay (P.Front l) a h = stay
-  unmarked-stay (P.Publisher p) (D.Count k) h = mark-stay p 0 h
-  unmarked-stay (P.Publisher p) (D.Refused k) h = stay
-
-  drop-stay : (peer : Peer) (g base : ℕ) (out : List ℤ) → i < 64
-      → Unmoved t (dropped_by t.places peer (drop_of t g base out)).table i
+  drop-stay : (g base : ℕ) (out : List ℤ) → Unmoved t (drop_of t g base out).table i
   unfolding drop_of struck
-  drop-stay peer g base out h =
-      by_row (λ (a : Dropped). Unmoved t (dropped_by t.places peer a).table i)
-      (ltb (length out) (2 * length (leaving t g))) _ _ (λ e. unmarked-stay peer (D.Refused 16) h)
-      (λ e. unmarked-stay peer (D.Count (length (leaving t g))) h)
-
-  finish-stay : (p : ℕ) → i < 64 → Unmoved t (finish_of t p).table i
-  unfolding finish_of finish_places
-  finish-stay p h =
-      by_row (λ (ps : List ℕ). Unmoved t (table_of t.masks t.numbers ps t.order t.times) i)
-      (no_publisher p) _ _ (λ e. stay)
-      (λ e. mark-stay p 1 h)
+  drop-stay g base out =
+      by_row (λ (a : Dropped). Unmoved t a.table i) (ltb (length out) (2 * length (leaving t g))) _ _ (λ e. stay)
+      (λ e. stay)
 
   -- where the latest time changes too
   run-out-stay : (g base now : ℕ) (out : List ℤ) → i < 64
@@ -207,9 +163,8 @@ never-moves t (cancel l n) i h b =
     (λ q. stay t i)))
 never-moves t (gone peer out) i h b =
     by_row (λ (a : Dropped). Unmoved t a.table i) (no_peer peer) _ _ (λ e. stay t i)
-    (λ e. drop-stay t i peer (slots_of t.masks t.places peer) (other_at peer) out h)
+    (λ e. drop-stay t i (slots_of t.masks t.places peer) (other_at peer) out)
 never-moves t (run_out time out) i h b =
     let now : ℕ = latest_of t.times time in
     by_row (λ (a : Dropped). Unmoved t a.table i) (no_time time) _ _ (λ e. stay t i)
     (λ e. run-out-stay t i (due_of t.masks t.times now) (ends_at false) now out h)
-never-moves t (finish p) i h b = finish-stay t i p h

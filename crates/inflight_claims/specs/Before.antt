@@ -2,10 +2,9 @@
 -- count, and a call took it and handed it back by value. These are the definitions that its calls were proved to meet,
 -- word for word, where closed and lost were two calls: one call stands for both now. What came later they have got
 -- since, as the model has it: an ask's time and timeout, each request's deadline, the latest time seen, and run out
--- (document 02, A2); which publishers are finishing, finish, and that a loss ends it (A6). `AsBefore` says that the
--- table answers, and leaves the lent slice, as that one does.
+-- (document 02, A2). `AsBefore` says that the table answers, and leaves the lent slice, as that one does.
 -- Assumes nothing.
-use Rattle.std.specs.Prelude.{◌≡◌, ℕ, Bool, false, List, [], ◌∷◌, ◌++◌, eqb, leb, ℤ, pos, length, take, drop, replicate}
+use Rattle.std.specs.Prelude.{◌≡◌, ℕ, Bool, List, [], ◌∷◌, ◌++◌, eqb, leb, ℤ, pos, length, take, drop, replicate}
 use Rattle.std.specs.Int.Signed.{lt_z}
 use Rattle.std.specs.Int.{w64}
 use Rattle.std.proofs.Common.{SFits}
@@ -15,12 +14,11 @@ use Rattle.inflight.specs.Matching.{blank}
 use Rattle.inflight.specs.Model.{Model}
 use Rattle.inflight.specs.Model as M
 use Rattle.inflight.specs.Calls.{Call, Heard, ask, reply, cancel, gone, run_out, asked, replied, cancelled, dropped}
-use Rattle.inflight.specs.Calls.{finish, finished}
 use Rattle.inflight.specs.Tables as T
 use Rattle.inflight.specs.Calls as K
 use Rattle.inflight.specs.declared.FrontNumber.{FrontNumber}
 use Rattle.inflight.specs.declared.PublisherNumber.{PublisherNumber}
-use Rattle.inflight.specs.declared.Peer as P
+use Rattle.inflight.specs.declared.Peer.TheVariants as P
 use Rattle.inflight.specs.declared.FreshAnswer.{FreshAnswer}
 use Rattle.inflight.specs.declared.FreshAnswer.TheVariants as F
 use Rattle.inflight.specs.declared.AskAnswer.{AskAnswer}
@@ -28,16 +26,14 @@ use Rattle.inflight.specs.declared.AskAnswer.TheVariants as A
 use Rattle.inflight.specs.declared.ReplyAnswer.{ReplyAnswer}
 use Rattle.inflight.specs.declared.CancelAnswer.{CancelAnswer}
 use Rattle.inflight.specs.declared.DropAnswer.{DropAnswer}
-use Rattle.inflight.specs.declared.FinishAnswer.{FinishAnswer}
 
 -- its first `count` requests are in flight, oldest accepted first; `next` is the number after each publisher's last
--- one, `seen` the latest time seen, `finishing` whether each publisher is
+-- one, `seen` the latest time seen
 pub record Table : Type 0 where
   pub requests : List Request
   pub count : ℕ
   pub next : List PublisherNumber
   pub seen : ℕ
-  pub finishing : List Bool
 
 pub record Started : Type 0 where
   pub table : Table
@@ -65,7 +61,7 @@ in_flight t = take t.count t.requests
 
 -- a table read as a model
 abbrev pub model_of : Table → Model
-model_of t = record { requests = in_flight t; next = t.next; seen = t.seen; finishing = t.finishing }
+model_of t = record { requests = in_flight t; next = t.next; seen = t.seen }
 
 -- a model stored over a table's places: those past its requests stay
 unfoldable pub store : Table → Model → Table
@@ -75,13 +71,11 @@ store t m =
       count = length m.requests;
       next = m.next;
       seen = m.seen;
-      finishing = m.finishing;
     }
 
 -- a table with no request, whose publishers' next number is n
 unfoldable pub empty_table : PublisherNumber → Table
-empty_table n =
-    record { requests = replicate 64 blank; count = 0; next = replicate 8 n; seen = 0; finishing = replicate 8 false }
+empty_table n = record { requests = replicate 64 blank; count = 0; next = replicate 8 n; seen = 0 }
 
 -- fresh: a first number below 1 is 30, and the table handed back with it starts at 1
 unfoldable pub fresh_of : PublisherNumber → Started
@@ -113,13 +107,11 @@ reply_of t p n = record { table = taken_of t (M.no_publisher p) n.0 (Reply p n);
 unfoldable pub cancel_of : Table → ℕ → FrontNumber → Cancelled
 cancel_of t l n = record { table = taken_of t (M.no_link l) n.0 (Cancel l n); answer = M.cancel_answer (model_of t) l n }
 
--- closed and lost: what the key matches is removed, unless refused, and a lost publisher is no longer finishing; and
--- the slice afterwards
-unfoldable pub drop_of : Table → Bool → Key → P.Peer → List ℤ → Dropped
-drop_of t range k peer out =
+-- closed and lost: what the key matches is removed, unless refused; and the slice afterwards
+unfoldable pub drop_of : Table → Bool → Key → List ℤ → Dropped
+drop_of t range k out =
     record {
-      table =
-          pick (eqb (M.drop_refusal (model_of t) range k out) 0) (store t (M.unmark (M.remove (model_of t) k) peer)) t;
+      table = pick (eqb (M.drop_refusal (model_of t) range k out) 0) (store t (M.remove (model_of t) k)) t;
       answer = M.drop_answer (model_of t) range k out;
     }
 
@@ -127,13 +119,13 @@ unfoldable pub drop_slice_of : Table → Bool → Key → List ℤ → List ℤ
 drop_slice_of t range k out = M.drop_slice (model_of t) range k out
 
 unfoldable pub closed_of : Table → ℕ → List ℤ → Dropped
-closed_of t l out = drop_of t (M.no_link l) (Closed l) (P.TheVariants.Front l) out
+closed_of t l out = drop_of t (M.no_link l) (Closed l) out
 
 unfoldable pub closed_slice_of : Table → ℕ → List ℤ → List ℤ
 closed_slice_of t l out = drop_slice_of t (M.no_link l) (Closed l) out
 
 unfoldable pub lost_of : Table → ℕ → List ℤ → Dropped
-lost_of t p out = drop_of t (M.no_publisher p) (Lost p) (P.TheVariants.Publisher p) out
+lost_of t p out = drop_of t (M.no_publisher p) (Lost p) out
 
 unfoldable pub lost_slice_of : Table → ℕ → List ℤ → List ℤ
 lost_slice_of t p out = drop_slice_of t (M.no_publisher p) (Lost p) out
@@ -152,33 +144,23 @@ run_out_of t time out =
 unfoldable pub run_out_slice_of : Table → ℕ → List ℤ → List ℤ
 run_out_slice_of t time out = M.run_out_slice (model_of t) time out
 
--- finish: the publisher is marked, unless refused
-pub record Finished : Type 0 where
-  pub table : Table
-  pub answer : FinishAnswer
-
-unfoldable pub finish_of : Table → ℕ → Finished
-finish_of t p = record { table = store t (M.finish (model_of t) p); answer = M.finish_answer p }
-
 -- the table: what the contracts of its five functions said, with closed and lost as a link that is gone and a publisher
--- that is; run out, and finish
+-- that is; and run out
 abbrev pub table_heard : Table → Call → Heard
 table_heard t (ask l n p time timeout) = asked (ask_of t l n p time timeout).answer
 table_heard t (reply p n) = replied (reply_of t p n).answer
 table_heard t (cancel l n) = cancelled (cancel_of t l n).answer
-table_heard t (gone (P.TheVariants.Front l) out) = dropped (closed_of t l out).answer (closed_slice_of t l out)
-table_heard t (gone (P.TheVariants.Publisher p) out) = dropped (lost_of t p out).answer (lost_slice_of t p out)
+table_heard t (gone (P.Front l) out) = dropped (closed_of t l out).answer (closed_slice_of t l out)
+table_heard t (gone (P.Publisher p) out) = dropped (lost_of t p out).answer (lost_slice_of t p out)
 table_heard t (run_out time out) = dropped (run_out_of t time out).answer (run_out_slice_of t time out)
-table_heard t (finish p) = finished (finish_of t p).answer
 
 abbrev pub table_after : Table → Call → Table
 table_after t (ask l n p time timeout) = (ask_of t l n p time timeout).table
 table_after t (reply p n) = (reply_of t p n).table
 table_after t (cancel l n) = (cancel_of t l n).table
-table_after t (gone (P.TheVariants.Front l) out) = (closed_of t l out).table
-table_after t (gone (P.TheVariants.Publisher p) out) = (lost_of t p out).table
+table_after t (gone (P.Front l) out) = (closed_of t l out).table
+table_after t (gone (P.Publisher p) out) = (lost_of t p out).table
 table_after t (run_out time out) = (run_out_of t time out).table
-table_after t (finish p) = (finish_of t p).table
 
 unfoldable pub table_run : Table → List Call → List Heard
 table_run t [] = []

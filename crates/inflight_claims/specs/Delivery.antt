@@ -1,8 +1,8 @@
 -- Demand 2's delivery, one claim about the list. For every table of the types' sizes, first number from 1 on and list
 -- of calls, a reply goes to the one ask that carried its number to that publisher, once, if that is still in flight,
--- which it is no longer once a run-out has freed it, and else nowhere; and a number comes to a publisher again only
--- after its numbering has gone right round. All of it is said of the calls of the list and of what was heard of them,
--- or would be heard of one call more; also which requests run out, and what a run-out tells of them.
+-- which it is no longer once a run-out has freed it, and else nowhere; and a number comes to a publisher again only after its
+-- numbering has gone right round. All of it is said of the calls of the list and of what was heard of them, or would be
+-- heard of one call more; also which requests run out, and what a run-out tells of them.
 -- Assumes nothing.
 use Rattle.std.specs.Prelude.{◌≡◌, ℕ, zero, suc, ◌+◌, ◌≤◌, ◌<◌, max, Bool, true, false, not, ◌&&◌, ◌||◌, List, [], ◌∷◌, ◌++◌, eqb, ℤ, pos, drop, get_or}
 use Rattle.wire.specs.Choice.{pick}
@@ -11,7 +11,7 @@ use Rattle.inflight.specs.Matching.{matches}
 use Rattle.inflight.specs.Model.{deadline_at}
 use Rattle.inflight.specs.Tables.{Table, Sized, fresh_of}
 use Rattle.inflight.specs.Calls.{Call, Heard, ask, reply, cancel, gone, run_out, asked, replied, cancelled, dropped}
-use Rattle.inflight.specs.Calls.{finish, finished, table_heard, table_at}
+use Rattle.inflight.specs.Calls.{table_heard, table_at}
 use Rattle.inflight.specs.declared.FrontNumber.{FrontNumber}
 use Rattle.inflight.specs.declared.PublisherNumber.{PublisherNumber}
 use Rattle.inflight.specs.Requests.{Request}
@@ -20,7 +20,6 @@ use Rattle.inflight.specs.declared.AskAnswer.TheVariants as A
 use Rattle.inflight.specs.declared.ReplyAnswer.TheVariants as R
 use Rattle.inflight.specs.declared.CancelAnswer.TheVariants as C
 use Rattle.inflight.specs.declared.DropAnswer.TheVariants as D
-use Rattle.inflight.specs.declared.FinishAnswer.TheVariants as N
 
 -- what is heard of a call that is made after some calls, or would be heard if it were made
 abbrev pub Answers : Type 0
@@ -40,8 +39,6 @@ refused (cancelled (C.Publisher p x)) = false
 refused (cancelled (C.Refused n)) = true
 refused (dropped (D.Count n) out) = false
 refused (dropped (D.Refused n) out) = true
-refused (finished N.Done) = false
-refused (finished (N.Refused n)) = true
 
 -- ---- times (document 02, A2)
 
@@ -52,7 +49,6 @@ time_of (reply p x) = 0
 time_of (cancel l f) = 0
 time_of (gone peer out) = 0
 time_of (run_out time out) = time
-time_of (finish p) = 0
 
 -- the latest of a time and of those that calls bring which come after the calls `before`; the time of a refused call
 -- is not seen
@@ -76,7 +72,6 @@ frees s e (reply p x) h = not (refused h) && matches (Reply p x) e
 frees s e (cancel l f) h = not (refused h) && matches (Cancel l f) e
 frees s e (gone peer out) h = not (refused h) && matches (key_of peer) e
 frees s e (run_out time out) h = not (refused h) && matches (Due (max s time)) e
-frees s e (finish p) h = false
 
 -- whether one of the calls that come after the calls `before` frees a request
 unfoldable pub freed_since : Answers → Request → List Call → List Call → Bool
@@ -118,7 +113,6 @@ told e (replied a) = false
 told e (cancelled a) = false
 told e (dropped (D.Count k) out) = among e.link e.front k out
 told e (dropped (D.Refused k) out) = false
-told e (finished a) = false
 
 -- ---- numbering
 
@@ -149,7 +143,6 @@ moved ans first p before s (reply q x) = s
 moved ans first p before s (cancel l f) = s
 moved ans first p before s (gone peer out) = s
 moved ans first p before s (run_out time out) = s
-moved ans first p before s (finish q) = s
 
 unfoldable pub stepped_from : Answers → PublisherNumber → ℕ → List Call → ℕ → List Call → ℕ
 stepped_from ans first p before s [] = s

@@ -2,7 +2,6 @@
 pub mod ListClaim
 pub mod Rows
 pub mod Delivery
-pub mod Finishing
 pub mod Before
 pub mod TwoCalls
 pub mod OldAsks

@@ -1,14 +1,14 @@
 -- Demand 3, one claim about the list. For every table of the types' sizes, first number from 1 on and list of ask,
--- reply, cancel, gone, run-out and finish calls, refused ones included, where gone stands for closed and lost, and
--- whatever times they bring: every answer, refusal number and whole slice of the table is the model's; and at every
--- point of the list the model keeps to the sentences on capacity, and holds no number twice.
+-- reply, cancel, gone and run-out calls, refused ones included, where gone stands for closed and lost, and whatever
+-- times they bring: every answer, refusal number and whole slice of the table is the model's; and at every point of the
+-- list the model keeps to the sentences on capacity, and holds no number twice.
 -- Assumes nothing.
-use Rattle.std.specs.Prelude.{◌≡◌, ℕ, ◌≤◌, ◌<◌, List, ◌++◌, true, false, pos, length}
+use Rattle.std.specs.Prelude.{◌≡◌, ℕ, ◌≤◌, ◌<◌, List, ◌++◌, true, pos, length}
 use Rattle.std.specs.Int.Signed.{le_z}
 use Rattle.std.specs.Int.{w64}
 use Rattle.std.proofs.Common.{SFits}
 use Rattle.inflight.specs.Matching.{matching, load, capacity_taken}
-use Rattle.inflight.specs.Model.{Model, empty, is_finishing, ask_answer, given}
+use Rattle.inflight.specs.Model.{Model, empty, ask_answer, given}
 use Rattle.inflight.specs.Tables.{Table, Sized, fresh_of}
 use Rattle.inflight.specs.Calls.{Call, table_run, model_run, model_at}
 use Rattle.inflight.specs.declared.FrontNumber.{FrontNumber}
@@ -25,7 +25,7 @@ pub record Valid (m : Model) (l : ℕ) (n : FrontNumber) (p time : ℕ) : Type 0
   pub number : n.0 ≡ pos 0 → ⊥
   pub own : length (matching (Cancel l n) m.requests) ≡ 0
 
--- the sentences on capacity, of a valid ask for a publisher that is not finishing
+-- the sentences on capacity, of a valid ask
 pub record Capacity (m : Model) (l : ℕ) (n : FrontNumber) (p time : ℕ) : Type 0 where
   -- load under 4: accepted
   pub under : load m.requests p < 4 → ask_answer m l n p time ≡ Accepted (given m p)
@@ -38,12 +38,7 @@ pub record Capacity (m : Model) (l : ℕ) (n : FrontNumber) (p time : ℕ) : Typ
 
 -- what holds of the model at every point
 pub record Kept (m : Model) : Type 0 where
-  -- demand 3's "rules on room .. don't cover asks for a finishing publisher" (document 02, A6)
-  pub capacity : (l : ℕ) (n : FrontNumber) (p time : ℕ) → Valid m l n p time → is_finishing m p ≡ false
-      → Capacity m l n p time
-  -- such a one is turned away
-  pub finishing : (l : ℕ) (n : FrontNumber) (p time : ℕ) → Valid m l n p time → is_finishing m p ≡ true
-      → ask_answer m l n p time ≡ Refused 27
+  pub capacity : (l : ℕ) (n : FrontNumber) (p time : ℕ) → Valid m l n p time → Capacity m l n p time
   -- "64 tickets"
   pub size : length m.requests ≤ 64
   -- no load is over 16
@@ -65,8 +60,8 @@ pub record ListClaim (t : Table) (first : PublisherNumber) (cs : List Call) : Ty
   -- fresh accepts the first number
   pub ready : (fresh_of t first).answer ≡ F.Ready
   -- all that a caller gets: of every call its result or refusal number, and of a gone peer and a run-out the whole
-  -- lent slice after it, at every place of the list. The tables themselves are heard by the calls that follow, since
-  -- the list is any
+  -- lent slice after it, at every place of the list. The tables themselves are heard by the calls that follow, since the list is
+  -- any
   pub heard : table_run (fresh_of t first).table cs ≡ model_run (empty first) cs
   -- at every point of the list
   pub kept : (before rest : List Call) → cs ≡ before ++ rest → Kept (model_at (empty first) before)

@@ -1,7 +1,7 @@
 -- "Old asks have no deadline" (document 02, A2). An old ask is one with time 0 and timeout 0. These are the definitions
 -- that ask was proved to meet before it brought a time and a timeout, word for word but that the table has times now,
--- which they leave, and that an ask for a finishing publisher is 27 (A6); `OldAsks` says that such an ask does what it
--- did then, gives its request no deadline, and lets the latest time stand.
+-- which they leave; `OldAsks` says that such an ask does what it did then, gives its request no deadline, and lets the
+-- latest time stand.
 -- Assumes nothing.
 use Rattle.std.specs.Prelude.{◌≡◌, ℕ, ◌+◌, ◌^◌, ◌<◌, Bool, true, false, not, List, [], ◌∷◌, eqb, leb, ℤ, pos, get_or, set}
 use Rattle.std.specs.Int.Bits.{bit_or}
@@ -10,13 +10,13 @@ use Rattle.wire.specs.Choice.{pick, first}
 use Rattle.inflight.specs.Numbers.{same, after}
 use Rattle.inflight.specs.Model.{no_link, no_publisher}
 use Rattle.inflight.specs.Masks.{slots, seek, lowest_free}
-use Rattle.inflight.specs.Tables.{Table, used, mine, is_front, is_finishing, load_refusal, given_of, Asked, ask_of}
+use Rattle.inflight.specs.Tables.{Table, used, mine, is_front, load_refusal, given_of, Asked, ask_of}
 use Rattle.inflight.specs.declared.FrontNumber.{FrontNumber}
 use Rattle.inflight.specs.declared.PublisherNumber.{PublisherNumber}
 use Rattle.inflight.specs.declared.AskAnswer.{AskAnswer}
 use Rattle.inflight.specs.declared.AskAnswer.TheVariants as A
 
--- 30, 12, 31, 27, 32, 33, and 0 where none applies
+-- 30, 12, 31, 32, 33, and 0 where none applies
 unfoldable pub ask_refusal_of : List ℕ → List ℤ → List ℕ → ℕ → FrontNumber → ℕ → ℕ
 ask_refusal_of ms ns ps l n p =
     first
@@ -24,7 +24,6 @@ ask_refusal_of ms ns ps l n p =
     ∷ (no_publisher p, 30)
     ∷ (same n.0 (pos 0), 12)
     ∷ (not (eqb (seek (is_front ns ps l n) (slots (get_or ms 0 0))) 64), 31)
-    ∷ (is_finishing ps p, 27)
     ∷ [])
     (load_refusal ms p)
 

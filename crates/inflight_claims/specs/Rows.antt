@@ -1,11 +1,10 @@
--- The refusals of the six calls, each "exactly when its row applies and none earlier does": row by row, of every book.
+-- The refusals of the five calls, each "exactly when its row applies and none earlier does": row by row, of every book.
 -- By the list claim the table answers so at every point of every list.
 -- Assumes nothing.
-use Rattle.std.specs.Prelude.{◌≡◌, ℕ, ◌*◌, ◌≤◌, ◌<◌, true, false, List, ℤ, pos, length}
+use Rattle.std.specs.Prelude.{◌≡◌, ℕ, ◌*◌, ◌≤◌, ◌<◌, List, ℤ, pos, length}
 use Rattle.inflight.specs.Requests.{Key, Reply, Cancel, key_of}
 use Rattle.inflight.specs.Matching.{matching}
-use Rattle.inflight.specs.Model.{Model, matched, is_finishing, ask_answer, reply_answer, cancel_answer, gone_answer}
-use Rattle.inflight.specs.Model.{run_out_key, run_out_answer, finish_answer}
+use Rattle.inflight.specs.Model.{Model, matched, ask_answer, reply_answer, cancel_answer, gone_answer, run_out_key, run_out_answer}
 use Rattle.inflight.specs.declared.FrontNumber.{FrontNumber}
 use Rattle.inflight.specs.declared.PublisherNumber.{PublisherNumber}
 use Rattle.inflight.specs.declared.Peer.{Peer}
@@ -14,15 +13,14 @@ use Rattle.inflight.specs.declared.AskAnswer.TheVariants as A
 use Rattle.inflight.specs.declared.ReplyAnswer.TheVariants as R
 use Rattle.inflight.specs.declared.CancelAnswer.TheVariants as C
 use Rattle.inflight.specs.declared.DropAnswer.TheVariants as D
-use Rattle.inflight.specs.declared.FinishAnswer.TheVariants as N
 use Rattle.inflight_claims.specs.ListClaim.{Valid, Capacity}
 
 -- no request that a key matches is in flight
 abbrev pub None : Key → Model → Type 0
 None k m = length (matching k m.requests) ≡ 0
 
--- ask: 30, 12, 31; where none of them applies the ask is valid, and is refused with 27 for a finishing publisher; for
--- any other it is refused with 32 or 33, or accepted, as `Capacity` says
+-- ask: 30, 12, 31; where none of them applies the ask is valid, and is refused with 32 or 33, or accepted, as
+-- `Capacity` says
 pub record AskRows (m : Model) (l : ℕ) (n : FrontNumber) (p time : ℕ) : Type 0 where
   pub link : 32 ≤ l → ask_answer m l n p time ≡ A.Refused 30
   pub publisher : 8 ≤ p → ask_answer m l n p time ≡ A.Refused 30
@@ -30,8 +28,7 @@ pub record AskRows (m : Model) (l : ℕ) (n : FrontNumber) (p time : ℕ) : Type
   pub zero : l < 32 → p < 8 → time < 4611686018427387904 → n.0 ≡ pos 0 → ask_answer m l n p time ≡ A.Refused 12
   pub own : l < 32 → p < 8 → time < 4611686018427387904 → (n.0 ≡ pos 0 → ⊥) → (None (Cancel l n) m → ⊥)
       → ask_answer m l n p time ≡ A.Refused 31
-  pub finishing : Valid m l n p time → is_finishing m p ≡ true → ask_answer m l n p time ≡ A.Refused 27
-  pub valid : Valid m l n p time → is_finishing m p ≡ false → Capacity m l n p time
+  pub valid : Valid m l n p time → Capacity m l n p time
 
 -- reply: 30, 12, 34, and else the request's link and front number
 pub record ReplyRows (m : Model) (p : ℕ) (n : PublisherNumber) : Type 0 where
@@ -65,11 +62,6 @@ pub record RunOutRows (m : Model) (time : ℕ) (out : List ℤ) : Type 0 where
   pub all : time < 4611686018427387904 → 2 * length (matching (run_out_key m time) m.requests) ≤ length out
       → run_out_answer m time out ≡ D.Count (length (matching (run_out_key m time) m.requests))
 
--- finish: 30, and else the publisher is marked
-pub record FinishRows (p : ℕ) : Type 0 where
-  pub range : 8 ≤ p → finish_answer p ≡ N.Refused 30
-  pub done : p < 8 → finish_answer p ≡ N.Done
-
 pub record Rows (m : Model) : Type 0 where
   pub ask : (l : ℕ) (n : FrontNumber) (p time : ℕ) → AskRows m l n p time
   pub reply : (p : ℕ) (n : PublisherNumber) → ReplyRows m p n
@@ -77,4 +69,3 @@ pub record Rows (m : Model) : Type 0 where
   pub front : (l : ℕ) (out : List ℤ) → GoneRows m (P.Front l) 32 l out
   pub publisher : (p : ℕ) (out : List ℤ) → GoneRows m (P.Publisher p) 8 p out
   pub run_out : (time : ℕ) (out : List ℤ) → RunOutRows m time out
-  pub finish : (p : ℕ) → FinishRows p

@@ -1,6 +1,6 @@
 -- Slots and masks. After every list of calls on a fresh table the count of ones in a publisher's mask is its load by
--- the model, which is what the load call tells; the used mask counts the requests in flight, and the latest time is the
--- model's. A new request's slot is the lowest free one. On any contents no call moves what a used slot holds.
+-- the model, the used mask counts the requests in flight, and the latest time is the model's. A new request's slot is the lowest free one. On any
+-- contents no call moves what a used slot holds.
 -- Assumes nothing.
 use Rattle.std.specs.Prelude.{◌≡◌, ℕ, ◌+◌, ◌^◌, ◌<◌, List, pos, length, get_or}
 use Rattle.std.specs.Int.Count.{ones}
@@ -9,8 +9,7 @@ use Rattle.std.proofs.Common.{SFits}
 use Rattle.inflight.specs.Matching.{load}
 use Rattle.inflight.specs.Masks.{bit_at, lowest_free}
 use Rattle.inflight.specs.Model.{empty}
-use Rattle.inflight.specs.Model as M
-use Rattle.inflight.specs.Tables.{Table, Sized, used, load_of, load_answer, fresh_of}
+use Rattle.inflight.specs.Tables.{Table, Sized, used, load_of, fresh_of}
 use Rattle.inflight.specs.Calls.{Call, table_after, table_at, model_at}
 use Rattle.inflight.specs.declared.PublisherNumber.{PublisherNumber}
 use Rattle.inflight.specs.declared.FreshAnswer.TheVariants as F
@@ -22,14 +21,6 @@ LoadsByMasks =
     (t : Table) → Sized t → (first : PublisherNumber) → SFits w64 first.0 → (fresh_of t first).answer ≡ F.Ready
     → (cs : List Call) (p : ℕ) → p < 8
     → load_of (table_at (fresh_of t first).table cs).masks p ≡ load (model_at (empty first) cs).requests p
-
--- so the load call tells the model's load, and 30 for a publisher out of range: of every publisher, at every point of
--- every list
-abbrev pub LoadsTold : Type 0
-LoadsTold =
-    (t : Table) → Sized t → (first : PublisherNumber) → SFits w64 first.0 → (fresh_of t first).answer ≡ F.Ready
-    → (cs : List Call) (p : ℕ)
-    → load_answer (table_at (fresh_of t first).table cs).masks p ≡ M.load_answer (model_at (empty first) cs) p
 
 -- and the used mask has as many ones as requests are in flight
 abbrev pub UsedByMask : Type 0

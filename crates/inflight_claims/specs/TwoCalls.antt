@@ -1,12 +1,11 @@
 -- Closed and lost as they were while they were two calls, before one stood for both (document 02, A4). These are the
--- definitions that they were proved to meet, word for word, but that a lost publisher is no longer finishing (A6);
--- `ForBoth` says that the one call does what they did.
+-- definitions that they were proved to meet, word for word; `ForBoth` says that the one call does what they did.
 -- Assumes nothing.
 use Rattle.std.specs.Prelude.{◌≡◌, ℕ, List, ℤ}
 use Rattle.wire.specs.Choice.{pick}
 use Rattle.inflight.specs.Model.{no_link, no_publisher}
 use Rattle.inflight.specs.Masks.{slots, gather}
-use Rattle.inflight.specs.Tables.{Table, used, mine, is_link, Dropped, drop_of, dropped_by, gone_of}
+use Rattle.inflight.specs.Tables.{Table, used, mine, is_link, Dropped, drop_of, gone_of}
 use Rattle.inflight.specs.declared.Peer.TheVariants as P
 use Rattle.inflight.specs.declared.DropAnswer.TheVariants as D
 
@@ -22,9 +21,7 @@ closed_of t l out =
 -- "lost all of its publisher": the other ends are links and front numbers
 unfoldable pub lost_of : Table → ℕ → List ℤ → Dropped
 lost_of t p out =
-    pick (no_publisher p)
-    (record { table = t; answer = D.Refused 30; slice = out })
-    (dropped_by t.places (P.Publisher p) (drop_of t (mine t p) 0 out))
+    pick (no_publisher p) (record { table = t; answer = D.Refused 30; slice = out }) (drop_of t (mine t p) 0 out)
 
 -- the claim: on any contents of the table, for every number and every slice, the same answer, table and slice
 pub record ForBoth : Type 0 where

@@ -2,12 +2,10 @@
 // specs/ListClaim.antt: every list of calls on a fresh table is answered as the model says, and what the model keeps
 // to (`listed`). specs/Rows.antt: the refusals of each call, row by row in their order (`rows`).
 // specs/Delivery.antt: a reply goes to the one ask that carried its number to that publisher, once, or nowhere; which
-// requests a run-out frees, and what it tells (`delivered`). specs/Finishing.antt: from when until when a publisher is
-// finishing, by the calls and their answers, and that asks for it are turned away (`finishes`).
-// specs/Before.antt: every first number, and every list of calls on a fresh table, is answered as the table without
-// slots and masks answered it (`as_before`). specs/TwoCalls.antt: the one call for a gone peer does what closed and
-// lost did, on any contents (`for-both`). specs/OldAsks.antt: an ask with time 0 and timeout 0 does what ask did before
-// it brought either (`old-asks`). specs/Slots.antt: loads, which the load call tells, and requests in flight are counts
-// of ones in masks, the latest time is the model's, and no call moves a request (`loads-by-masks`, `loads-told`,
-// `used-by-mask`, `seen-by-times`, `never-moves`).
+// requests a run-out frees, and what it tells (`delivered`). specs/Before.antt: every first number, and every list of calls on a fresh table, is answered as the
+// table without slots and masks answered it (`as_before`). specs/TwoCalls.antt: the one call for a gone peer does what
+// closed and lost did, on any contents (`for-both`). specs/OldAsks.antt: an ask with time 0 and timeout 0 does what ask
+// did before it brought either (`old-asks`).
+// specs/Slots.antt: loads and requests in flight are counts of ones in masks, the latest time is the model's, and no
+// call moves a request (`loads-by-masks`, `used-by-mask`, `seen-by-times`, `never-moves`).
 #![tactic(auto)]

@@ -24,7 +24,7 @@ fn ends_at(publishers: bool) -> usize
 pub fn drop_slots(
     masks: &mut [u64; 9],
     numbers: &[i64; 136],
-    places: &[u8; 136],
+    places: &[u8; 128],
     order: &mut [u8; 64],
     mask: u64,
     publishers: bool,

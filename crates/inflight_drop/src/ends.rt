@@ -36,7 +36,7 @@ fn wide(x: u8) -> i64
 }
 
 // A link or publisher as a number of the slice.
-fn end_place(places: &[u8; 136], at: usize) -> i64
+fn end_place(places: &[u8; 128], at: usize) -> i64
     requires { at < 128 }
     ensures { result ≡ pos (get_or places.now at 0) }
 {
@@ -46,7 +46,7 @@ fn end_place(places: &[u8; 136], at: usize) -> i64
 // Their other ends, at an offset into numbers and places, written at the front of a slice.
 pub(crate) fn write_ends(
     numbers: &[i64; 136],
-    places: &[u8; 136],
+    places: &[u8; 128],
     line: &[u8; 64],
     n: usize,
     mask: u64,

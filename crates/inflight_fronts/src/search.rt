@@ -9,7 +9,7 @@ use inflight::{FrontNumber, same_front};
 // Whether the request in slot i has a link and a front number, and the lowest bit of m is set.
 fn front_at(
     numbers: &[i64; 136],
-    places: &[u8; 136],
+    places: &[u8; 128],
     i: usize,
     m: u64,
     link: u8,
@@ -48,7 +48,7 @@ fn none_of_four(numbers: &[i64; 136], i: usize, n: FrontNumber) -> bool
 // there is none.
 fn front_of_four(
     numbers: &[i64; 136],
-    places: &[u8; 136],
+    places: &[u8; 128],
     i: usize,
     m: u64,
     link: u8,
@@ -81,7 +81,7 @@ fn front_of_four(
 pub fn find_front(
     mask: u64,
     numbers: &[i64; 136],
-    places: &[u8; 136],
+    places: &[u8; 128],
     link: u8,
     n: FrontNumber,
 ) -> usize

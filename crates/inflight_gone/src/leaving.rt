@@ -1,7 +1,7 @@
 // Gone: the refusals in their order, and the slots of a peer's requests.
 ghost use Rattle.std.specs.Prelude.{◌≡◌, false, List, ℕ};
 ghost use Rattle.inflight.specs.Model.{no_peer};
-ghost use Rattle.inflight.specs.Tables.{table_of, ends_at, Dropped, slots_of, other_at, unmarked, gone_of};
+ghost use Rattle.inflight.specs.Tables.{table_of, ends_at, Dropped, slots_of, other_at, gone_of};
 
 use inflight::{DropAnswer, Peer};
 use inflight_drop::drop_slots;
@@ -19,7 +19,7 @@ fn no_peer(peer: Peer) -> bool
 }
 
 // The slots of a peer's requests.
-fn peer_slots(masks: &[u64; 9], places: &[u8; 136], peer: Peer) -> u64
+fn peer_slots(masks: &[u64; 9], places: &[u8; 128], peer: Peer) -> u64
     requires { no_peer peer ≡ false }
     ensures { result ≡ slots_of masks.now places.now peer }
 {
@@ -39,40 +39,24 @@ fn to_publishers(peer: Peer) -> bool
     }
 }
 
-// Where its requests were freed, or it had none, a publisher is no longer finishing.
-fn unmark(places: &mut [u8; 136], peer: Peer, answer: DropAnswer)
-    requires { no_peer peer ≡ false }
-    ensures { places.new ≡ unmarked places.old peer answer }
-{
-    match peer {
-        Peer::Front(_) => {}
-        Peer::Publisher(publisher) => match answer {
-            DropAnswer::Count(_) => {
-                places[128 + publisher as usize] = 0;
-            }
-            DropAnswer::Refused(_) => {}
-        },
-    }
-}
-
 // A peer is gone, a front link that closed or a publisher that was lost: frees all its requests and writes the other
-// end of each, publisher and publisher number for a link, link and front number for a publisher; such a publisher is
-// no longer finishing. Whatever the times ts are, it neither reads nor changes them.
+// end of each, publisher and publisher number for a link, link and front number for a publisher. Whatever the times ts
+// are, it neither reads nor changes them.
 pub fn gone(
     masks: &mut [u64; 9],
     numbers: &[i64; 136],
-    places: &mut [u8; 136],
+    places: &[u8; 128],
     order: &mut [u8; 64],
     peer: Peer,
     out: &mut [i64],
 ) -> DropAnswer
     ensures { (ts : List ℕ) → ◌≡◌ {A = Dropped} (record {
       table = table_of masks.new numbers.now
-          places.new order.new ts;
+          places.now order.new ts;
       answer = result;
       slice = out.new;
     })
-        (gone_of (table_of masks.old numbers.now places.old
+        (gone_of (table_of masks.old numbers.now places.now
         order.old ts) peer out.old) }
 {
     if no_peer(peer) {
@@ -80,7 +64,5 @@ pub fn gone(
     }
     let mask = peer_slots(masks, places, peer);
     let publishers = to_publishers(peer);
-    let answer = drop_slots(masks, numbers, places, order, mask, publishers, out);
-    unmark(places, peer, answer);
-    answer
+    drop_slots(masks, numbers, places, order, mask, publishers, out)
 }

@@ -13,7 +13,7 @@ use borrow.Author.Tests.{eqb-true, eqb-false, eq-eqb, ne_eqb, leb-false, not-fal
 use Rattle.wire.specs.Choice.{pick}
 use Rattle.inflight.specs.Numbers.{same}
 use Rattle.inflight.specs.Matching.{matches, matching, without, load, capacity_taken, sum_below}
-use Rattle.inflight.specs.Model.{Model, is_finishing, ask_refusal}
+use Rattle.inflight.specs.Model.{Model, ask_refusal}
 use Rattle.inflight.specs.declared.FrontNumber.{FrontNumber}
 use Rattle.inflight.specs.Requests.{Request}
 use Rattle.inflight.specs.Requests.{Key}
@@ -144,18 +144,17 @@ below_length (more {e} {es} h b) =
 
 -- ---- what an accepted ask says of link, publisher, time, number, loads and capacity
 
-rows : (a b t c d g e f : Bool)
-    → ◌≡◌ {A = ℕ} (pick a 30 (pick b 30 (pick t 30 (pick c 12 (pick d 31 (pick g 27 (pick e 32 (pick f 33 0)))))))) 0
-    → (a ≡ false) × (b ≡ false) × (t ≡ false) × (c ≡ false) × (d ≡ false) × (g ≡ false) × (e ≡ false) × (f ≡ false)
-rows true b t c d g e f h = absurd (omega arith)
-rows false true t c d g e f h = absurd (omega arith)
-rows false false true c d g e f h = absurd (omega arith)
-rows false false false true d g e f h = absurd (omega arith)
-rows false false false false true g e f h = absurd (omega arith)
-rows false false false false false true e f h = absurd (omega arith)
-rows false false false false false false true f h = absurd (omega arith)
-rows false false false false false false false true h = absurd (omega arith)
-rows false false false false false false false false h = (refl, refl, refl, refl, refl, refl, refl, refl)
+rows : (a b t c d e f : Bool)
+    → ◌≡◌ {A = ℕ} (pick a 30 (pick b 30 (pick t 30 (pick c 12 (pick d 31 (pick e 32 (pick f 33 0))))))) 0
+    → (a ≡ false) × (b ≡ false) × (t ≡ false) × (c ≡ false) × (d ≡ false) × (e ≡ false) × (f ≡ false)
+rows true b t c d e f h = absurd (omega arith)
+rows false true t c d e f h = absurd (omega arith)
+rows false false true c d e f h = absurd (omega arith)
+rows false false false true d e f h = absurd (omega arith)
+rows false false false false true e f h = absurd (omega arith)
+rows false false false false false true f h = absurd (omega arith)
+rows false false false false false false true h = absurd (omega arith)
+rows false false false false false false false h = (refl, refl, refl, refl, refl, refl, refl)
 
 either : (a b : Bool) → a && b ≡ false → (a ≡ false) ⊎ (b ≡ false)
 either true b h = inr h
@@ -175,20 +174,15 @@ pub accepts : (m : Model) (l : ℕ) (n : FrontNumber) (p time : ℕ) → ask_ref
 unfolding ask_refusal
 accepts m l n p time e =
     let es = m.requests in
-    let r =
-    rows (leb 32 l) (leb 8 p) (leb 4611686018427387904 time) (same n.0 (pos 0))
-    (not (eqb (length (matching (Cancel l n) es)) 0)) (is_finishing m p) (leb 16 (load es p))
-    (leb 4 (load es p) && eqb (capacity_taken es) 64) e in
+    let r = rows (leb 32 l) (leb 8 p) (leb 4611686018427387904 time) (same n.0 (pos 0)) (not (eqb (length (matching (Cancel l n) es)) 0)) (leb 16 (load es p)) (leb 4 (load es p) && eqb (capacity_taken es) 64) e in
     record {
       link = leb-false 32 l r.0;
       range = leb-false 8 p r.1;
       clock = leb-false 4611686018427387904 time r.2;
       number = r.3;
       own = eqb-true (length (matching (Cancel l n) es)) 0 (not-false (eqb (length (matching (Cancel l n) es)) 0) r.4);
-      under = leb-false 16 (load es p) r.6;
-      reason =
-          ⊎_elim (λ b. inl (leb-false 4 (load es p) b)) (λ c. inr (eqb-false (capacity_taken es) 64 c))
-          (either (leb 4 (load es p)) (eqb (capacity_taken es) 64) r.7);
+      under = leb-false 16 (load es p) r.5;
+      reason = ⊎_elim (λ b. inl (leb-false 4 (load es p) b)) (λ c. inr (eqb-false (capacity_taken es) 64 c)) (either (leb 4 (load es p)) (eqb (capacity_taken es) 64) r.6);
     }
 
 -- ---- what holds of the requests at every point

@@ -18,11 +18,9 @@ use Rattle.inflight.proofs.NumberLaws.{same_true, eq-same, ne_same}
 use Rattle.inflight.specs.Matching.{matches, matching, without, next_free}
 use Rattle.inflight.specs.Model.{Model, ask_refusal, take_refusal, drop_refusal, given, entry}
 use Rattle.inflight.specs.Model as M
-use Rattle.inflight.specs.Calls.{Call, ask, reply, cancel, gone, run_out, finish, model_after, model_at}
+use Rattle.inflight.specs.Calls.{Call, ask, reply, cancel, gone, run_out, model_after, model_at}
 use Rattle.inflight.specs.declared.FrontNumber.{FrontNumber}
 use Rattle.inflight.specs.declared.PublisherNumber.{PublisherNumber}
-use Rattle.inflight.specs.declared.Peer.{Peer}
-use Rattle.inflight.specs.declared.Peer.TheVariants as P
 use Rattle.inflight.specs.Requests.{Request}
 use Rattle.inflight.specs.Requests.{Key}
 use Rattle.inflight.specs.Requests.{Reply, Cancel, key_of}
@@ -93,7 +91,6 @@ pub record Invariant (b : Model) : Type 0 where
   pub once : (p : ℕ) (n : PublisherNumber) → length (matching (Reply p n) b.requests) ≤ 1
   pub front_once : (l : ℕ) (n : FrontNumber) → length (matching (Cancel l n) b.requests) ≤ 1
   pub seen : b.seen < 4611686018427387904
-  pub marks : length b.finishing ≡ 8
 
 pub inv-empty : (first : PublisherNumber) → Ranged first → Invariant (M.empty first)
 unfolding M.empty matching
@@ -105,12 +102,11 @@ inv-empty first r =
       once = λ p n. omega arith;
       front_once = λ l n. omega arith;
       seen = omega arith;
-      marks = length-replicate 8 false;
     }
 
 -- fewer requests, and a time seen
 inv-remove : (b : Model) (k : Key) (now : ℕ) → Invariant b → now < 4611686018427387904
-    → Invariant (record { requests = without k b.requests; next = b.next; seen = now; finishing = b.finishing })
+    → Invariant (record { requests = without k b.requests; next = b.next; seen = now })
 inv-remove b k now f h =
     record {
       bounded = bounded-without k f.bounded;
@@ -119,21 +115,6 @@ inv-remove b k now f h =
       once = λ p n. omega (arith, matching-without (Reply p n) k b.requests, f.once p n);
       front_once = λ l n. omega (arith, matching-without (Cancel l n) k b.requests, f.front_once l n);
       seen = h;
-      marks = f.marks;
-    }
-
--- other marks
-inv-marks : (b : Model) (fs : List Bool) → length fs ≡ 8 → Invariant b
-    → Invariant (record { requests = b.requests; next = b.next; seen = b.seen; finishing = fs })
-inv-marks b fs h f =
-    record {
-      bounded = f.bounded;
-      eight = f.eight;
-      ranged = f.ranged;
-      once = f.once;
-      front_once = f.front_once;
-      seen = f.seen;
-      marks = h;
     }
 
 -- the number that an ask accepted by the model is given is not in flight with its publisher
@@ -206,7 +187,6 @@ inv-ask b l n p time timeout f = go (eqb (ask_refusal b l n p time) 0) refl
           once = λ q y. one_more (Reply q y) es E (f.once q y) (λ h. ap (λ (j : Key). length (matching j es)) (sym (reply-same p q (given b p) y E refl refl h)) ∙ new);
           front_once = λ k y. one_more (Cancel k y) es E (f.front_once k y) (λ h. ap (λ (j : Key). length (matching j es)) (sym (cancel-same l k n y E refl refl h)) ∙ r.own);
           seen = omega (arith, f.seen, r.clock);
-          marks = f.marks;
         }
 
 inv-pick : (x : Bool) (a b : Model) → Invariant a → Invariant b → Invariant (pick x a b)
@@ -226,7 +206,7 @@ unfolding M.run_out drop_refusal
 inv-run-out b time out f = go (eqb (drop_refusal b (M.no_time time) (M.run_out_key b time) out) 0) refl
   where
     go : (x : Bool) → eqb (drop_refusal b (M.no_time time) (M.run_out_key b time) out) 0 ≡ x
-        → Invariant (pick x (M.see (M.remove b (M.run_out_key b time)) (M.latest b time)) b)
+        → Invariant (pick x (record { requests = without (M.run_out_key b time) b.requests; next = b.next; seen = max b.seen time }) b)
     go false e = f
     go true e =
         let short : Bool = ltb (length out) (2 * length (matching (M.run_out_key b time) b.requests)) in
@@ -234,23 +214,14 @@ inv-run-out b time out f = go (eqb (drop_refusal b (M.no_time time) (M.run_out_k
         let r = leb-false 4611686018427387904 time (in-range (M.no_time time) short (eqb-true no 0 e)) in
         inv-remove b (M.run_out_key b time) (max b.seen time) f (omega (arith, f.seen, r))
 
-inv-unmark : (b : Model) (peer : Peer) → Invariant b → Invariant (M.unmark b peer)
-inv-unmark b (P.Front l) f = f
-inv-unmark b (P.Publisher p) f =
-    inv-marks b (set b.finishing p false) (length-set b.finishing p false ∙ f.marks) f
-
 pub inv-call : (b : Model) (c : Call) → Invariant b → Invariant (model_after b c)
-unfolding M.taken M.gone M.finish
+unfolding M.taken M.dropped
 inv-call b (ask l n p time timeout) f = inv-ask b l n p time timeout f
 inv-call b (reply p n) f = inv-pick (eqb (take_refusal b (M.no_publisher p) n.0 (Reply p n)) 0) _ b (inv-removed b (Reply p n) f) f
 inv-call b (cancel l n) f = inv-pick (eqb (take_refusal b (M.no_link l) n.0 (Cancel l n)) 0) _ b (inv-removed b (Cancel l n) f) f
 inv-call b (gone peer out) f =
-    inv-pick (eqb (drop_refusal b (M.no_peer peer) (key_of peer) out) 0) _ b
-    (inv-unmark (M.remove b (key_of peer)) peer (inv-removed b (key_of peer) f)) f
+    inv-pick (eqb (drop_refusal b (M.no_peer peer) (key_of peer) out) 0) _ b (inv-removed b (key_of peer) f) f
 inv-call b (run_out time out) f = inv-run-out b time out f
-inv-call b (finish p) f =
-    inv-pick (M.no_publisher p) b _ f
-    (inv-marks b (set b.finishing p true) (length-set b.finishing p true ∙ f.marks) f)
 
 inv-from : (cs : List Call) (b : Model) → Invariant b → Invariant (model_at b cs)
 unfolding model_at

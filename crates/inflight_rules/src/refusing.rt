@@ -7,9 +7,7 @@ use inflight::{FrontNumber, same_front};
 use inflight_fronts::find_front;
 use inflight_slots::count;
 use inflight_times::no_time;
-use refusal::{
-    CAPACITY_GONE, IN_FLIGHT_ALREADY, LOAD_AT_LIMIT, NUMBER_ZERO, OUT_OF_RANGE, PUBLISHER_FINISHING,
-};
+use refusal::{CAPACITY_GONE, IN_FLIGHT_ALREADY, LOAD_AT_LIMIT, NUMBER_ZERO, OUT_OF_RANGE};
 
 // 32 and 33 by the rules, and 0 where neither applies.
 fn load_refusal(masks: &[u64; 9], publisher: u8) -> u8
@@ -34,7 +32,7 @@ fn load_refusal(masks: &[u64; 9], publisher: u8) -> u8
 pub fn ask_refusal(
     masks: &[u64; 9],
     numbers: &[i64; 136],
-    places: &[u8; 136],
+    places: &[u8; 128],
     link: u8,
     number: FrontNumber,
     publisher: u8,
@@ -57,9 +55,6 @@ pub fn ask_refusal(
     }
     if find_front(masks[0], numbers, places, link, number) != 64 {
         return IN_FLIGHT_ALREADY;
-    }
-    if places[128 + publisher as usize] != 0 {
-        return PUBLISHER_FINISHING;
     }
     load_refusal(masks, publisher)
 }

@@ -25,7 +25,7 @@ fn see(times: &mut [u64; 65], time: u64, answer: DropAnswer)
 pub fn run_out(
     masks: &mut [u64; 9],
     numbers: &[i64; 136],
-    places: &[u8; 136],
+    places: &[u8; 128],
     order: &mut [u8; 64],
     times: &mut [u64; 65],
     time: u64,

@@ -24,7 +24,7 @@ pub fn find_number(mask: u64, numbers: &[i64; 136], n: PublisherNumber) -> usize
 }
 
 // The slots of a mask whose request has a link.
-pub fn find_link(mask: u64, places: &[u8; 136], link: u8) -> u64
+pub fn find_link(mask: u64, places: &[u8; 128], link: u8) -> u64
     ensures { result ≡ gather (is_link places.now link) (slots mask) 0 }
 {
     let mut m = mask;

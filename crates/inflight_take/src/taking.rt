@@ -13,7 +13,7 @@ use refusal::{NO_SUCH_REQUEST, NUMBER_ZERO, OUT_OF_RANGE};
 pub fn reply(
     masks: &mut [u64; 9],
     numbers: &[i64; 136],
-    places: &[u8; 136],
+    places: &[u8; 128],
     order: &mut [u8; 64],
     publisher: u8,
     number: PublisherNumber,
@@ -47,7 +47,7 @@ pub fn reply(
 pub fn cancel(
     masks: &mut [u64; 9],
     numbers: &[i64; 136],
-    places: &[u8; 136],
+    places: &[u8; 128],
     order: &mut [u8; 64],
     link: u8,
     number: FrontNumber,

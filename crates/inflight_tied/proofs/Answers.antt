@@ -15,19 +15,17 @@ use Rattle.inflight.specs.Numbers.{same, after}
 use Rattle.wire.specs.Choice.{pick, first}
 use Rattle.inflight.specs.Matching.{sum_below, matches, matching, load, capacity_taken, next_free}
 use Rattle.inflight.specs.Model.{ask_refusal}
-use Rattle.inflight.specs.Model as M
 use Rattle.inflight.specs.declared.FrontNumber.{FrontNumber}
 use Rattle.inflight.specs.declared.PublisherNumber.{PublisherNumber}
 use Rattle.inflight.specs.Requests.{Key}
 use Rattle.inflight.specs.Requests.{Reply, Cancel}
 use Rattle.inflight.specs.Masks.{bit_at, slots, slots_from, seek}
 use Rattle.inflight.specs.Tables.{taken_of, free_of, load_refusal, ask_refusal_of, line, Table, used, mine, is_front}
-use Rattle.inflight.specs.Tables.{is_number, is_finishing}
+use Rattle.inflight.specs.Tables.{is_number}
 use Rattle.inflight_tied.proofs.Tied.{occ, Tied, entry, in_flight, model_of}
 use Rattle.inflight_tied.proofs.Ties.{line-length, total-same, bit-most}
 use Rattle.inflight_tied.proofs.Loads.{keep, keep-below, keep-occ, named-map, length-of-map, load-ones}
 use Rattle.inflight_tied.proofs.Loads.{taken-same}
-use Rattle.inflight_tied.proofs.Marks.{finishing-same}
 
 -- ---- a search that ends at 64 passed every slot of the mask
 
@@ -201,7 +199,6 @@ module _ (w : Table) (t : Tied w) where
           ∷ (leb 4611686018427387904 time, 30)
           ∷ (same n.0 (pos 0), 12)
           ∷ (not (eqb (seek (is_front w.numbers w.places l n) (slots (used w))) 64), 31)
-          ∷ (is_finishing w.places p, 27)
           ∷ [])
           (first
           ((leb 16 (ones (mine w p)), 32)
@@ -213,9 +210,8 @@ module _ (w : Table) (t : Tied w) where
           ∷ (leb 4611686018427387904 time, 30)
           ∷ (same n.0 (pos 0), 12)
           ∷ (not (eqb (length (matching (Cancel l n) (in_flight w))) 0), 31)
-          ∷ (M.is_finishing (model_of w) p, 27)
           ∷ (leb 16 (load (in_flight w) p), 32)
           ∷ (leb 4 (load (in_flight w) p) && eqb (capacity_taken (in_flight w)) 64, 33)
           ∷ []) 0)
       go true e = rw e
-      go false e = rw (front_same l n, finishing-same w p, load-ones w t p (leb-false 8 p e), taken-same w t)
+      go false e = rw (front_same l n, load-ones w t p (leb-false 8 p e), taken-same w t)

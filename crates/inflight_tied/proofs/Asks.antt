@@ -21,7 +21,7 @@ use Rattle.inflight.specs.declared.PublisherNumber.{PublisherNumber}
 use Rattle.inflight.specs.Requests.{Request}
 use Rattle.inflight.specs.Masks.{bit_at, lowest_free}
 use Rattle.inflight.specs.Tables.{line, Table, Sized, used, latest_of, timed_of, placed, given_of, ask_refusal_of, ask_of}
-use Rattle.inflight_tied.proofs.Tied.{occ, Below, Tied, entry, in_flight, is_mark, model_of}
+use Rattle.inflight_tied.proofs.Tied.{occ, Below, Tied, entry, in_flight, model_of}
 use Rattle.inflight.proofs.MaskLaws.{twice}
 use Rattle.inflight_model.proofs.Capacity.{accepts}
 use Rattle.inflight.proofs.OrderLaws.{map-append}
@@ -77,7 +77,7 @@ module _ (w : Table) (l : ℕ) (n : FrontNumber) (p s : ℕ) (g : PublisherNumbe
       ∙ get_or-set_other w.times s x (deadline_at (latest_of w.times time) timeout) 0 a
 
 module _ (w : Table) (l : ℕ) (n : FrontNumber) (p s : ℕ) (g : PublisherNumber) (time timeout : ℕ) (p8 : p < 8) (s64 : s < 64)
-    (ln : length w.numbers ≡ 136) (lp : length w.places ≡ 136) (lt : length w.times ≡ 65) where
+    (ln : length w.numbers ≡ 136) (lp : length w.places ≡ 128) (lt : length w.times ≡ 65) where
   link-new : get_or (placed w l n p s g time timeout).places s 0 ≡ l
   link-new =
       get_or-set_other (set w.places s l) (64 + s) s p 0 (λ e. omega arith)
@@ -156,12 +156,9 @@ get_d-wrap [] i = refl
 get_d-wrap (x ∷ xs) zero = refl
 get_d-wrap (x ∷ xs) (suc i) = get_d-wrap xs i
 
-model-eq : {es fs : List Request} {a b : List PublisherNumber} {s u : ℕ} {c d : List Bool} → es ≡ fs → a ≡ b → s ≡ u
-    → c ≡ d
-    → ◌≡◌ {A = Model}
-    (record { requests = es; next = a; seen = s; finishing = c })
-    (record { requests = fs; next = b; seen = u; finishing = d })
-model-eq p q r o = rw (p, q, r, o)
+model-eq : {es fs : List Request} {a b : List PublisherNumber} {s u : ℕ} → es ≡ fs → a ≡ b → s ≡ u
+    → ◌≡◌ {A = Model} (record { requests = es; next = a; seen = s }) (record { requests = fs; next = b; seen = u })
+model-eq p q r = rw (p, q, r)
 
 -- the number that is given is the model's
 pub given-same : (w : Table) → Tied w → (p : ℕ) → p < 8 → given_of w p ≡ given (model_of w) p
@@ -173,7 +170,7 @@ given-same w t p h =
 
 module _ (w : Table) (t : Tied w) (l : ℕ) (n : FrontNumber) (p : ℕ) (s : ℕ) (g : PublisherNumber) (time timeout : ℕ) (p8 : p < 8)
     (s64 : s < 64) (fr : bit_at s (used w) ≡ 0) (lm : length w.masks ≡ 9) (ln : length w.numbers ≡ 136)
-    (lp : length w.places ≡ 136) (lt : length w.times ≡ 65) where
+    (lp : length w.places ≡ 128) (lt : length w.times ≡ 65) where
   pub placed-standing : in_flight (placed w l n p s g time timeout)
       ≡ in_flight w ++ record {
         link = l;
@@ -200,13 +197,6 @@ module _ (w : Table) (t : Tied w) (l : ℕ) (n : FrontNumber) (p : ℕ) (s : ℕ
       ∙ drop-set-lt 128 w.numbers s n.0 (omega arith)))
       ∙ map-set (drop 128 w.numbers) p (after g).0
 
-  -- no slot's places are marks
-  placed-marks : map is_mark (drop 128 (placed w l n p s g time timeout).places) ≡ map is_mark (drop 128 w.places)
-  placed-marks =
-      ap (map is_mark)
-      (drop-set-lt 128 (set w.places s l) (64 + s) p (omega arith)
-      ∙ drop-set-lt 128 w.places s l (omega arith))
-
   pub read-placed : model_of (placed w l n p s g time timeout)
       ≡ record {
         requests = (model_of w).requests ++ record {
@@ -218,9 +208,8 @@ module _ (w : Table) (t : Tied w) (l : ℕ) (n : FrontNumber) (p : ℕ) (s : ℕ
         } ∷ [];
         next = set (model_of w).next p (after g);
         seen = latest_of w.times time;
-        finishing = (model_of w).finishing;
       }
-  read-placed = model-eq placed-standing placed-next (seen-new w l n p s g time timeout p8 s64 ln lp lt) placed-marks
+  read-placed = model-eq placed-standing placed-next (seen-new w l n p s g time timeout p8 s64 ln lp lt)
 
 pub record AskSame (w : Table) (l : ℕ) (n : FrontNumber) (p time timeout : ℕ) : Type 0 where
   pub answer : (ask_of w l n p time timeout).answer ≡ ask_answer (model_of w) l n p time
@@ -265,7 +254,6 @@ ask-all w t z seen l n p time timeout room =
               ++ record { link = l; front = n; publisher = p; number = x; deadline = deadline_at now timeout } ∷ [];
           next = set (model_of w).next p (after x);
           seen = now;
-          finishing = (model_of w).finishing;
         } in
         record {
           answer = rw (e, f, q) (ap A.Accepted g);

@@ -16,16 +16,14 @@ use Rattle.inflight.specs.Matching.{matches, matching, other_ends, over_front}
 use Rattle.inflight.specs.Requests.{Request, Key, key_of}
 use Rattle.inflight.specs.declared.Peer.{Peer}
 use Rattle.inflight.specs.declared.Peer.TheVariants as P
-use Rattle.inflight.specs.Model.{Model, drop_refusal, drop_answer, drop_slice, remove, unmark, gone, no_peer}
+use Rattle.inflight.specs.Model.{drop_refusal, drop_answer, drop_slice, dropped, no_peer}
 use Rattle.inflight.specs.declared.DropAnswer.TheVariants as D
 use Rattle.inflight.specs.Tables.{Table, line, used, is_link, slots_of, leaving, other_at, ends_of, struck, Dropped, drop_of}
-use Rattle.inflight.specs.Tables.{dropped_by, gone_of}
+use Rattle.inflight.specs.Tables.{gone_of}
 use Rattle.inflight_tied.proofs.Tied.{occ, Below, Tied, entry, in_flight, model_of}
 use Rattle.inflight_tied.proofs.Ties.{bit-or, bit-most}
 use Rattle.inflight_tied.proofs.Loads.{length-of-map}
 use Rattle.inflight_tied.proofs.Placed.{bit-self, bit-other, bit-of-zero, power-fits}
-use Rattle.inflight_tied.proofs.Cuts.{struck-tied}
-use Rattle.inflight_tied.proofs.Marks.{unmarking-refused, unmarking-model}
 use Rattle.inflight_tied.proofs.Struck.{struck-standing, leaving-matching}
 
 -- ---- the bits of a gathered mask
@@ -181,80 +179,54 @@ peer-ends w (P.Publisher p) (x ∷ xs) b =
 
 -- ---- the call against the model
 
-pub record DropSame (w : Table) (r : Dropped) (range : Bool) (k : Key) (out : List ℤ) (m : Model) : Type 0 where
+pub record DropSame (w : Table) (r : Dropped) (range : Bool) (k : Key) (out : List ℤ) : Type 0 where
   pub answer : r.answer ≡ drop_answer (model_of w) range k out
   pub slice : r.slice ≡ drop_slice (model_of w) range k out
-  pub table : model_of r.table ≡ m
+  pub table : model_of r.table ≡ dropped (model_of w) range k out
 
--- the model after a peer is gone, or not
-abbrev after : Model → Bool → Peer → List ℤ → Model
-after m range peer out =
-    pick (eqb (drop_refusal m range (key_of peer) out) 0) (unmark (remove m (key_of peer)) peer) m
+refused-same : (w : Table) (k : Key) (out : List ℤ)
+    → DropSame w (record { table = w; answer = D.Refused 30; slice = out }) true k out
+unfolding drop_answer drop_slice dropped drop_refusal
+refused-same w k out = record { answer = refl; slice = refl; table = refl }
 
-refused-same : (w : Table) (peer : Peer) (out : List ℤ)
-    → DropSame w (record { table = w; answer = D.Refused 30; slice = out }) true (key_of peer) out
-    (after (model_of w) true peer out)
-unfolding drop_answer drop_slice drop_refusal
-refused-same w peer out = record { answer = refl; slice = refl; table = refl }
-
-drop-same : (w : Table) → Tied w → (peer : Peer) (g base : ℕ) (out : List ℤ) → g < 2 ^ 64
-    → ((x : ℕ) → x < 64 → 0 < occ x (line w) → matches (key_of peer) (entry w x) ≡ has g x)
-    → ends_of w.numbers w.places base (leaving w g) ≡ other_ends (key_of peer) (map (entry w) (leaving w g))
-    → DropSame w (dropped_by w.places peer (drop_of w g base out)) false (key_of peer) out
-    (after (model_of w) false peer out)
-unfolding drop_of drop_answer drop_slice drop_refusal struck
-drop-same w t peer g base out fits hits ends = go (ltb (length out) (2 * length (leaving w g))) refl
+drop-same : (w : Table) → Tied w → (k : Key) (g base : ℕ) (out : List ℤ) → g < 2 ^ 64
+    → ((x : ℕ) → x < 64 → 0 < occ x (line w) → matches k (entry w x) ≡ has g x)
+    → ends_of w.numbers w.places base (leaving w g) ≡ other_ends k (map (entry w) (leaving w g))
+    → DropSame w (drop_of w g base out) false k out
+unfolding drop_of drop_answer drop_slice dropped drop_refusal struck
+drop-same w t k g base out fits hits ends = go (ltb (length out) (2 * length (leaving w g))) refl
   where
-    k : Key
-    k = key_of peer
-
     m : matching k (in_flight w) ≡ map (entry w) (leaving w g)
     m = leaving-matching w k g t hits
 
     n : length (matching k (in_flight w)) ≡ length (leaving w g)
     n = ap length m ∙ length-of-map w (leaving w g)
 
-    go : (b : Bool) → ltb (length out) (2 * length (leaving w g)) ≡ b
-        → DropSame w (dropped_by w.places peer (drop_of w g base out)) false k out (after (model_of w) false peer out)
-    go true e =
-        record {
-          answer = rw (n, e);
-          slice = rw (n, e);
-          table = rw (n, e) (ap model_of (unmarking-refused w peer 16));
-        }
+    go : (b : Bool) → ltb (length out) (2 * length (leaving w g)) ≡ b → DropSame w (drop_of w g base out) false k out
+    go true e = record { answer = rw (n, e); slice = rw (n, e); table = rw (n, e) }
     go false e =
         record {
           answer = rw (n, e);
           slice = rw (n, e) (ap (λ (z : List ℤ). over_front z out) (ends ∙ ap (other_ends k) (sym m)));
           table =
               rw (n, e)
-              (unmarking-model (struck w g) peer (length (leaving w g)) (struck-tied w g fits t)
-              ∙ ap
-              (λ (l : List Request). unmark (record {
-                requests = l;
-                next = (model_of w).next;
-                seen = (model_of w).seen;
-                finishing = (model_of w).finishing;
-              })
-              peer)
+              (ap (λ (l : List Request). record { requests = l; next = (model_of w).next; seen = (model_of w).seen })
               (struck-standing w k g t hits fits));
         }
 
 pub gone_same : (w : Table) → Tied w → (peer : Peer) (out : List ℤ)
-    → DropSame w (gone_of w peer out) (no_peer peer) (key_of peer) out (gone (model_of w) peer out)
-unfolding gone_of gone
+    → DropSame w (gone_of w peer out) (no_peer peer) (key_of peer) out
+unfolding gone_of
 gone_same w t peer out = go (no_peer peer) refl
   where
     g : ℕ
     g = slots_of w.masks w.places peer
 
     go : (b : Bool) → no_peer peer ≡ b
-        → DropSame w
-        (pick b (record { table = w; answer = D.Refused 30; slice = out })
-        (dropped_by w.places peer (drop_of w g (other_at peer) out)))
-        b (key_of peer) out (after (model_of w) b peer out)
-    go true e = refused-same w peer out
+        → DropSame w (pick b (record { table = w; answer = D.Refused 30; slice = out }) (drop_of w g (other_at peer) out))
+        b (key_of peer) out
+    go true e = refused-same w (key_of peer) out
     go false e =
-        drop-same w t peer g (other_at peer) out (slots-fit w t peer)
+        drop-same w t (key_of peer) g (other_at peer) out (slots-fit w t peer)
         (hit-has w t (key_of peer) g (peer-bit w t peer e))
         (peer-ends w peer (leaving w g) (within-below g (line w) t.low))

@@ -4,7 +4,6 @@ pub mod Ties
 pub mod LaidOut
 pub mod Cuts
 pub mod Loads
-pub mod Marks
 pub mod Answers
 pub mod Placed
 pub mod Freed

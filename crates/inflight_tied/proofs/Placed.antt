@@ -90,7 +90,7 @@ power-fits s h =
     omega arith
 
 module _ (w : Table) (t : Tied w) (l : ℕ) (n : FrontNumber) (p s : ℕ) (g : PublisherNumber) (time timeout : ℕ) (p8 : p < 8) (s64 : s < 64)
-    (fr : bit_at s (used w) ≡ 0) (lm : length w.masks ≡ 9) (lp : length w.places ≡ 136) where
+    (fr : bit_at s (used w) ≡ 0) (lm : length w.masks ≡ 9) (lp : length w.places ≡ 128) where
   used-placed : used (placed w l n p s g time timeout) ≡ bit_or (used w) (2 ^ s)
   used-placed =
       get_or-set_other (set w.masks 0 (bit_or (used w) (2 ^ s))) (1 + p) 0 (bit_or (mine w p) (2 ^ s)) 0

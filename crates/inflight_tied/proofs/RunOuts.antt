@@ -99,12 +99,7 @@ module _ (w : Table) (t : Tied w) (now : ℕ) where
 
   -- the table without them, which sees the time
   due-model : Sized w → model_of (seeing (struck w (due w now)) now)
-      ≡ record {
-        requests = without (Due now) (in_flight w);
-        next = (model_of w).next;
-        seen = now;
-        finishing = (model_of w).finishing;
-      }
+      ≡ record { requests = without (Due now) (in_flight w); next = (model_of w).next; seen = now }
   unfolding struck
   due-model z =
       ap
@@ -112,17 +107,10 @@ module _ (w : Table) (t : Tied w) (now : ℕ) where
         requests = l;
         next = (model_of w).next;
         seen = get_or (set w.times 64 now) 64 0;
-        finishing = (model_of w).finishing;
       })
       (seeing-standing (struck w (due w now)) now (struck-tied w (due w now) (due-fits w now) t)
       ∙ struck-standing w (Due now) (due w now) t (hit-has w t (Due now) (due w now) (due-bit w now)) (due-fits w now))
-      ∙ ap
-      (λ (s : ℕ). record {
-        requests = without (Due now) (in_flight w);
-        next = (model_of w).next;
-        seen = s;
-        finishing = (model_of w).finishing;
-      })
+      ∙ ap (λ (s : ℕ). record { requests = without (Due now) (in_flight w); next = (model_of w).next; seen = s })
       (get_or-set_same w.times 64 now 0 (let l = z.times in omega arith))
 
 -- ---- the call against the model
@@ -165,17 +153,7 @@ run-out-same w t z seen time out = go (no_time time) refl
         record {
           answer = rw (e, s, k) (ap D.Count (sym (ap (λ (n : ℕ). length (matching (Due n) (in_flight w))) (sym l) ∙ due-count w t now)));
           slice = rw (e, s, k) (ap (λ (ns : List ℤ). over_front ns out) ends);
-          table =
-              rw (e, s, k)
-              (due-model w t now z
-              ∙ ap
-              (λ (n : ℕ). record {
-                requests = without (Due n) (in_flight w);
-                next = (model_of w).next;
-                seen = n;
-                finishing = (model_of w).finishing;
-              })
-              l);
+          table = rw (e, s, k) (due-model w t now z ∙ ap (λ (n : ℕ). record { requests = without (Due n) (in_flight w); next = (model_of w).next; seen = n }) l);
           kept = rw (e, s) (seeing-tied (struck w g) now (struck-tied w g (due-fits w now) t));
         }
 

@@ -17,31 +17,26 @@ use Rattle.wire.proofs.ChoiceLaws.{by_row}
 use Rattle.inflight.specs.Numbers.{same}
 use Rattle.inflight.specs.Model.{Model, ask_refusal, empty, no_link, no_publisher, no_peer, no_time}
 use Rattle.inflight.specs.Calls.{Call, Heard, ask, reply, cancel, gone, run_out, asked, replied, cancelled, dropped}
-use Rattle.inflight.specs.Calls.{finish, finished}
 use Rattle.inflight.specs.Calls.{table_heard, table_after, table_run, table_at, model_heard, model_after, model_run, model_at}
 use Rattle.inflight.specs.declared.FrontNumber.{FrontNumber}
 use Rattle.inflight.specs.declared.PublisherNumber.{PublisherNumber}
 use Rattle.inflight.specs.declared.Peer.{Peer}
-use Rattle.inflight.specs.declared.Peer.TheVariants as P
 use Rattle.inflight.specs.declared.DropAnswer.{DropAnswer}
-use Rattle.inflight.specs.declared.DropAnswer.TheVariants as D
 use Rattle.inflight.specs.declared.FreshAnswer.{FreshAnswer}
 use Rattle.inflight.specs.declared.FreshAnswer.TheVariants as F
 use Rattle.inflight.specs.Masks.{bit_at, outside, laid_out, seek, slots, lowest_free}
-use Rattle.inflight.specs.Tables.{Table, table_of, Sized, used, mine, line, slots_of, leaving, struck, freed, placed}
-use Rattle.inflight.specs.Tables.{given_of, is_number, is_front, ask_refusal_of, ask_of, reply_of, cancel_of, other_at, drop_of}
-use Rattle.inflight.specs.Tables.{gone_of, Replied, Cancelled, fresh_answer, fresh_masks, fresh_numbers, fresh_places}
-use Rattle.inflight.specs.Tables.{fresh_times, fresh_of, timed_of, latest_of, due_of, Dropped, dropped_by, dropped_at}
-use Rattle.inflight.specs.Tables.{run_out_of, finish_places, finish_of}
+use Rattle.inflight.specs.Tables.{Table, Sized, used, mine, line, slots_of, leaving, struck, freed, placed, given_of}
+use Rattle.inflight.specs.Tables.{is_number, is_front, ask_refusal_of, ask_of, reply_of, cancel_of, other_at, drop_of, gone_of}
+use Rattle.inflight.specs.Tables.{Replied, Cancelled, fresh_answer, fresh_masks, fresh_numbers, fresh_times, fresh_of, timed_of}
+use Rattle.inflight.specs.Tables.{latest_of, due_of, Dropped, dropped_at, run_out_of}
 use Rattle.inflight_model.proofs.Capacity.{accepts, bounded-space}
 use Rattle.inflight_model.proofs.Invariant.{Ranged, Invariant, inv-call, inv-empty}
-use Rattle.inflight_tied.proofs.Tied.{occ, Below, Aged, Tied, entry, in_flight, is_mark, model_of}
+use Rattle.inflight_tied.proofs.Tied.{occ, Below, Aged, Tied, entry, in_flight, model_of}
 use Rattle.inflight_tied.proofs.Ties.{occ-nil}
 use Rattle.inflight_tied.proofs.LaidOut.{anew-length}
 use Rattle.inflight_tied.proofs.Cuts.{struck-tied}
 use Rattle.inflight_tied.proofs.Placed.{bit-of-zero}
 use Rattle.inflight_tied.proofs.Loads.{length-standing}
-use Rattle.inflight_tied.proofs.Marks.{unmarking, unmarking-tied, finish-same}
 use Rattle.inflight_tied.proofs.Takes.{reply-same, cancel-same}
 use Rattle.inflight_tied.proofs.Drops.{slots-fit, gone_same}
 use Rattle.inflight_tied.proofs.Asks.{ask-all}
@@ -130,29 +125,13 @@ cancel-sized w l n h =
     (λ b. by_row sized (leb 64 (seek (is_front w.numbers w.places l n) (slots (used w)))) _ _ (λ c. h)
     (λ c. freed-sized w _ h)))
 
-places-sized : (w : Table) (ps : List ℕ) → length ps ≡ 136 → Sized w
-    → Sized (table_of w.masks w.numbers ps w.order w.times)
-places-sized w ps h l =
-    record { masks = l.masks; numbers = l.numbers; places = h; order = l.order; times = l.times }
-
-unmarking-sized : (w : Table) (peer : Peer) (a : DropAnswer) → Sized w → Sized (unmarking w peer a)
-unmarking-sized w (P.Front l) a z = z
-unmarking-sized w (P.Publisher p) (D.Count k) z = places-sized w _ (length-set w.places (128 + p) 0 ∙ z.places) z
-unmarking-sized w (P.Publisher p) (D.Refused k) z = z
-
-unmarking-kept : (w : Table) (peer : Peer) (a : DropAnswer) → Kept w → Kept (unmarking w peer a)
-unmarking-kept w peer a h =
-    record { tied = unmarking-tied w peer a h.tied; sized = unmarking-sized w peer a h.sized }
-
-drop-kept : (w : Table) (peer : Peer) (g base : ℕ) (out : List ℤ) → g < 2 ^ 64 → Kept w
-    → Kept (dropped_by w.places peer (drop_of w g base out)).table
-unfolding drop_of struck
-drop-kept w peer g base out f h = go (ltb (length out) (2 * length (leaving w g))) refl
+drop-kept : (w : Table) (g base : ℕ) (out : List ℤ) → g < 2 ^ 64 → Kept w → Kept (drop_of w g base out).table
+unfolding drop_of
+drop-kept w g base out f h = go (ltb (length out) (2 * length (leaving w g))) refl
   where
-    go : (x : Bool) → ltb (length out) (2 * length (leaving w g)) ≡ x
-        → Kept (dropped_by w.places peer (drop_of w g base out)).table
-    go true e = rw e (unmarking-kept w peer (D.Refused 16) h)
-    go false e = rw e (unmarking-kept (struck w g) peer (D.Count (length (leaving w g))) (struck-kept w g f h))
+    go : (x : Bool) → ltb (length out) (2 * length (leaving w g)) ≡ x → Kept (drop_of w g base out).table
+    go true e = rw e h
+    go false e = rw e (struck-kept w g f h)
 
 gone-kept : (w : Table) (peer : Peer) (out : List ℤ) → Kept w → Kept (gone_of w peer out).table
 unfolding gone_of
@@ -162,7 +141,7 @@ gone-kept w peer out h = go (no_peer peer) refl
     go true e = rw e h
     go false e =
         rw e
-        (drop-kept w peer (slots_of w.masks w.places peer) (other_at peer) out (slots-fit w h.tied peer) h)
+        (drop-kept w (slots_of w.masks w.places peer) (other_at peer) out (slots-fit w h.tied peer) h)
 
 run-out-sized : (w : Table) (time : ℕ) (out : List ℤ) → Sized w → Sized (run_out_of w time out).table
 unfolding run_out_of drop_of struck
@@ -177,16 +156,6 @@ run-out-sized w time out h =
 
     g : ℕ
     g = due_of w.masks w.times now
-
-finish-sized : (w : Table) (p : ℕ) → Sized w → Sized (finish_of w p).table
-unfolding finish_of finish_places
-finish-sized w p z = go (no_publisher p)
-  where
-    go : (x : Bool)
-        → Sized
-        (table_of w.masks w.numbers (pick x w.places (set w.places (128 + p) 1)) w.order w.times)
-    go true = z
-    go false = places-sized w _ (length-set w.places (128 + p) 1 ∙ z.places) z
 
 -- ---- one call
 
@@ -239,13 +208,6 @@ same-call w (run_out time out) g =
       answer = heard-eq r.answer r.slice;
       table = r.table;
       kept = record { tied = r.kept; sized = run-out-sized w time out g.kept.sized };
-    }
-same-call w (finish p) g =
-    let r = finish-same w g.kept.tied p in
-    record {
-      answer = ap finished r.answer;
-      table = r.table;
-      kept = record { tied = r.kept; sized = finish-sized w p g.kept.sized };
     }
 
 pub good-after : (w : Table) (c : Call) → Good w → Good (table_after w c)
@@ -315,13 +277,13 @@ module _ (w : Table) (n : PublisherNumber) (z : Sized w) (low : lt_z n.0 (pos 1)
       record {
         masks = replicate 9 0;
         numbers = take 128 w.numbers ++ replicate 8 n.0;
-        places = take 128 w.places ++ replicate 8 0;
+        places = w.places;
         order = w.order;
         times = set w.times 64 0;
       }
 
   fresh-is : (fresh_of w n).table ≡ table
-  unfolding fresh_of fresh_masks fresh_numbers fresh_places fresh_times table
+  unfolding fresh_of fresh_masks fresh_numbers fresh_times table
   fresh-is = rw low
 
   no_line : line table ≡ []
@@ -331,9 +293,6 @@ module _ (w : Table) (n : PublisherNumber) (z : Sized w) (low : lt_z n.0 (pos 1)
   front : length (take 128 w.numbers) ≡ 128
   front = length-take-le 128 w.numbers (let a = z.numbers in omega arith)
 
-  behind : length (take 128 w.places) ≡ 128
-  behind = length-take-le 128 w.places (let a = z.places in omega arith)
-
   table-model : model_of table ≡ empty n
   unfolding table empty in_flight
   table-model =
@@ -342,7 +301,6 @@ module _ (w : Table) (n : PublisherNumber) (z : Sized w) (low : lt_z n.0 (pos 1)
         requests = map (entry table) xs;
         next = map (λ x. record { 0 = x }) (drop 128 (take 128 w.numbers ++ replicate 8 n.0));
         seen = get_or (set w.times 64 0) 64 0;
-        finishing = map is_mark (drop 128 (take 128 w.places ++ replicate 8 0));
       })
       no_line
       ∙ ap
@@ -350,19 +308,10 @@ module _ (w : Table) (n : PublisherNumber) (z : Sized w) (low : lt_z n.0 (pos 1)
         requests = [];
         next = map (λ x. record { 0 = x }) xs;
         seen = get_or (set w.times 64 0) 64 0;
-        finishing = map is_mark (drop 128 (take 128 w.places ++ replicate 8 0));
       })
       (drop_at (take 128 w.numbers) (replicate 8 n.0) 128 front)
-      ∙ ap
-      (λ (s : ℕ). record {
-        requests = [];
-        next = replicate 8 n;
-        seen = s;
-        finishing = map is_mark (drop 128 (take 128 w.places ++ replicate 8 0));
-      })
+      ∙ ap (λ (s : ℕ). record { requests = []; next = replicate 8 n; seen = s })
       (get_or-set_same w.times 64 0 0 (let a = z.times in omega arith))
-      ∙ ap (λ (xs : List ℕ). record { requests = []; next = replicate 8 n; seen = 0; finishing = map is_mark xs })
-      (drop_at (take 128 w.places) (replicate 8 0) 128 behind)
 
   table-tied : Tied table
   unfolding table Below Aged
@@ -376,8 +325,8 @@ module _ (w : Table) (n : PublisherNumber) (z : Sized w) (low : lt_z n.0 (pos 1)
             λ p h i k. ap (bit_at i) (zero-mask 9 (1 + p))
             ∙ bit-of-zero i
             ∙ sym
-            (ap (λ (b : ℕ). pick (eqb (get_or table.places (64 + i) 0) p) b 0) (bit-of-zero i)
-            ∙ nothing (eqb (get_or table.places (64 + i) 0) p));
+            (ap (λ (b : ℕ). pick (eqb (get_or w.places (64 + i) 0) p) b 0) (bit-of-zero i)
+            ∙ nothing (eqb (get_or w.places (64 + i) 0) p));
         whole = z.order;
         aged = rw no_line tt;
       }
@@ -388,7 +337,7 @@ module _ (w : Table) (n : PublisherNumber) (z : Sized w) (low : lt_z n.0 (pos 1)
       record {
         masks = refl;
         numbers = length-append (take 128 w.numbers) (replicate 8 n.0) ∙ ap (λ (k : ℕ). k + 8) front;
-        places = length-append (take 128 w.places) (replicate 8 0) ∙ ap (λ (k : ℕ). k + 8) behind;
+        places = z.places;
         order = z.order;
         times = length-set w.times 64 0 ∙ z.times;
       }

@@ -75,15 +75,7 @@ pub data Found (w : Table) (k : Key) (s : ℕ) : Type 0 where
 frees : (w : Table) (k : Key) (s : ℕ) → in_flight (freed w s) ≡ without k (in_flight w)
     → model_of (freed w s) ≡ remove (model_of w) k
 unfolding freed
-frees w k s e =
-    ap
-    (λ (l : List Request). record {
-      requests = l;
-      next = (model_of w).next;
-      seen = (model_of w).seen;
-      finishing = (model_of w).finishing;
-    })
-    e
+frees w k s e = ap (λ (l : List Request). record { requests = l; next = (model_of w).next; seen = (model_of w).seen }) e
 
 pub reply-found : (w : Table) → Tied w → (p : ℕ) → p < 8 → (n : PublisherNumber)
     → length (matching (Reply p n) (in_flight w)) ≤ 1

@@ -2,7 +2,6 @@
 -- Assumes nothing.
 use mathlib.Core.Path.{◌≡◌}
 use Prim.Native.Nat.{ℕ, suc, ◌+◌, ◌^◌, ◌<◌}
-use mathlib.Core.Bool.{Bool, not}
 use mathlib.Core.List.{List, [], ◌∷◌, map}
 use lib.Dec.{eqb}
 use lib.IntN.{pos}
@@ -54,15 +53,10 @@ entry w x =
 unfoldable pub in_flight : Table → List Request
 in_flight w = map (entry w) (line w)
 
--- whether a publisher's mark says that it is finishing
-abbrev pub is_mark : ℕ → Bool
-is_mark x = not (eqb x 0)
-
 abbrev pub model_of : Table → Model
 model_of w =
     record {
       requests = in_flight w;
       next = map (λ z. record { 0 = z }) (drop 128 w.numbers);
       seen = get_or w.times 64 0;
-      finishing = map is_mark (drop 128 w.places);
     }

@@ -1,5 +1,5 @@
 -- What a receive call answers, and the link after it (document 01, "Packets" and "Receive order: 20, 22, 1, 3, 2, 4, 5,
--- 6, then 7 to 10 or 17, 21"; document 02, A11: 24 "after 8 and before 9"; A6: 28 "after 6"). Assumes nothing.
+-- 6, then 7 to 10 or 17, 21"; document 02, A11: 24 "after 8 and before 9"). Assumes nothing.
 use Rattle.std.specs.Prelude.{ℕ, List, [], ◌∷◌, eqb}
 use Rattle.wire.specs.Bytes.{within}
 use Rattle.wire.specs.Choice.{first}
@@ -10,14 +10,12 @@ use Rattle.packet.specs.declared.Arrival.{Arrival}
 use Rattle.packet.specs.declared.Arrival.TheVariants.{Incomplete, Packet, Refused}
 use Rattle.opening.specs.Nonce.{nonce_refusal}
 use Rattle.handshake_in.specs.Handshake.{handshake_refusal}
-use Rattle.link_fins.specs.Fins.{fin_refusal}
 use Rattle.link_next.specs.KeepAlive.{ping_refusal, pong_refusal}
 use Rattle.link_next.specs.Next.{refused_of, after_of}
 use Rattle.link.specs.Look.{look_of}
 use Rattle.link.specs.declared.Received.{Received}
 
--- "then 7 to 10 or 17, 21": what is refused in the bodies that a link itself reads; and 28, whatever the body. 0 is
--- none
+-- "then 7 to 10 or 17, 21": what is refused in the bodies that a link itself reads. 0 is none
 unfoldable pub body_refusal : Link → ℕ → List ℕ → Moment → ℕ
 body_refusal l kind b m =
     first (
@@ -26,7 +24,7 @@ body_refusal l kind b m =
     (eqb kind 0x5730a2df, ping_refusal l b) ∷
     (eqb kind 0x8430eaa7, pong_refusal l b) ∷
     []
-    ) (fin_refusal l kind)
+    ) 0
 
 -- a link and an answer
 abbrev pub gives : Link → Arrival → Received

@@ -5,13 +5,12 @@ ghost use Rattle.link.specs.Receive.{body_refusal, receive_of};
 use crate::Received;
 use crate::turn::look;
 use handshake_in::handshake_refusal;
-use link_fins::fin_refusal;
 use link_next::{after, ping_refusal, pong_refusal, refused};
 use link_state::{Link, Moment};
 use opening::nonce_refusal;
 use packet::{Arrival, HANDSHAKE, NONCE, PING, PONG, body};
 
-// A refusal's number, or 0, of the body of a packet of this type, or of the type after a fin.
+// A refusal's number, or 0, of the body of a packet of this type.
 fn body_refusal(link: Link, kind: u32, b: &[u8], moment: Moment) -> u8
     ensures { result ≡ body_refusal link kind b.now moment }
 {
@@ -28,7 +27,7 @@ fn body_refusal(link: Link, kind: u32, b: &[u8], moment: Moment) -> u8
     if kind == PONG {
         return pong_refusal(link, b);
     }
-    fin_refusal(link, kind)
+    0
 }
 
 // What the link makes of the front of the bytes, and the link after it.

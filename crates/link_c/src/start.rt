@@ -28,8 +28,6 @@ fn no_link() -> Link
         awaits: false,
         owes: false,
         ciphered: false,
-        ourfin: false,
-        theirfin: false,
         keyid: 0,
         sends: 0,
         gets: 0,

@@ -14,7 +14,6 @@ use Rattle.wire.proofs.ChoiceLaws.{by_row}
 use Rattle.link_state.specs.declared.Link.{Link}
 use Rattle.link_state.specs.declared.Moment.{Moment}
 use Rattle.link_state.specs.Turn.{may_send}
-use Rattle.link_fins.specs.Fins.{finished_of}
 use Rattle.packet.specs.Sum.{sum_of}
 use Rattle.packet.specs.Allowed.{allowed_of, refuses}
 use Rattle.packet_padding.specs.Padding.{tail_of}
@@ -163,18 +162,17 @@ module _ (P : Step → Type 0) (l : Link) (kind : ℕ)
       let r = may-go l kind busy (refuses-none (send_refusal l kind busy) e) in
       fits-ways id (length body) room r.0 r.1
 
-module _ (P : Step → Type 0) (l : Link) (w : O.Outgoing) (p : List ℕ) (m : Moment) (room : ℕ)
+module _ (P : Step → Type 0) (l : Link) (w : O.Outgoing) (p : List ℕ) (room : ℕ)
     (stays : (k : ℕ) → P (record { link = l; answer = W.TheVariants.Refused k }))
     (steps : (id len : ℕ) → may_send l.set.server l.stage ≡ true → allowed_of l (kind_of w) ≡ true
     → P (record { link = sent_of l (kind_of w) id (size_of l len); answer = W.TheVariants.Written (size_of l len) }))
   where
-    pub message-ways : P (message_step l w p m room)
+    pub message-ways : P (message_step l w p room)
     unfolding message_step message_answer
     message-ways =
         let R : W.Sent → Type 0 = λ (a : W.Sent). P (step_by l (kind_of w) 0 a) in
         by_row R (refuses (send_refusal l (kind_of w) false)) _ _ (λ _. stays (send_refusal l (kind_of w) false)) λ e.
         by_row R (wrong_way l.set.server w) _ _ (λ _. stays 19) λ _.
-        by_row R (finished_of l (kind_of w) m) _ _ (λ _. stays 29) λ _.
         by_row R (number_zero w) _ _ (λ _. stays 12) λ _.
         by_row R (payload_misread w p) _ _ (λ _. stays 15) λ _.
         let r = may-go l (kind_of w) false (refuses-none (send_refusal l (kind_of w) false) e) in
@@ -192,7 +190,7 @@ send-ways P l (Handshake sender peer) p drawn m room f g =
     control-ways P l 0x7682eef5 f g false (handshake_body (flags_of l) sender peer) 0 room
 send-ways P l (Ping id) p drawn m room f g = control-ways P l 0x5730a2df f g l.awaits (bytes 8 id) id room
 send-ways P l Pong p drawn m room f g = control-ways P l 0x8430eaa7 f g (not l.owes) (bytes 8 l.owed) 0 room
-send-ways P l (Message w) p drawn m room f g = message-ways P l w p m room f g
+send-ways P l (Message w) p drawn m room f g = message-ways P l w p room f g
 
 -- ---- flush: it is refused and nothing changes, or the words that are due are written and count
 

@@ -7,14 +7,10 @@ use libc::STDIN_FILENO;
 use link_state::Link;
 
 // Room (4).
-pub(crate) fn flush_record(link: Link, inflight: u32) -> Turn {
+pub(crate) fn flush_record(link: Link) -> Turn {
     let mut head = [0u8; 4];
     if io::read_full(STDIN_FILENO, &mut head) < 4 {
-        return Turn {
-            link,
-            inflight,
-            more: false,
-        };
+        return Turn { link, more: false };
     }
     let mut space = [0xa5u8; 4096];
     let buffer: &mut [u8] = &mut space;
@@ -25,7 +21,6 @@ pub(crate) fn flush_record(link: Link, inflight: u32) -> Turn {
     print_answer(b"flush", answer, front(buffer, room));
     Turn {
         link: next,
-        inflight,
         more: true,
     }
 }

@@ -1,8 +1,7 @@
 // Conversations of one link at a time, on the records of standard input. A record is an operation (1 byte) and its
 // fields: 0, a new link; 1, a receive call on given bytes; 2, a send call with a buffer of given size; 3, a new link
-// with all its settings and a key; 4, the count in flight of the calls that follow, which is 1 for a new link; 5, a
-// flush call with a buffer of given size; 6, whether the link is ciphered. A line has the answer, or the refusal's
-// number, and says whether the link is closed after it.
+// with all its settings and a key; 5, a flush call with a buffer of given size; 6, whether the link is ciphered. A line
+// has the answer, or the refusal's number, and says whether the link is closed after it.
 #![tactic(auto)]
 
 mod flushing;
@@ -16,17 +15,16 @@ use link_state::{Link, SetUp, Settings};
 use print::{bytes, refused};
 use space::{fill, front};
 
-// The link after a record and the count in flight of its calls, and whether there was one.
+// The link after a record, and whether there was one.
 #[derive(Drop)]
 pub struct Turn {
     pub link: Link,
-    pub inflight: u32,
     pub more: bool,
 }
 
-// A link with these settings and this key, or without one if it is empty, whose count is 1; or the old one where they
-// are refused; and the line.
-fn set_up(old: Link, inflight: u32, set: Settings, key: &[u8]) -> Turn {
+// A link with these settings and this key, or without one if it is empty; or the old one where they are refused; and the
+// line.
+fn set_up(old: Link, set: Settings, key: &[u8]) -> Link {
     let made = if key.len() == 0 {
         link_state::set_up(set)
     } else {
@@ -35,19 +33,11 @@ fn set_up(old: Link, inflight: u32, set: Settings, key: &[u8]) -> Turn {
     match made {
         SetUp::Ready(link) => {
             bytes(b"link");
-            Turn {
-                link,
-                inflight: 1,
-                more: true,
-            }
+            link
         }
         SetUp::Refused(n) => {
             refused(n);
-            Turn {
-                link: old,
-                inflight,
-                more: true,
-            }
+            old
         }
     }
 }
@@ -55,19 +45,20 @@ fn set_up(old: Link, inflight: u32, set: Settings, key: &[u8]) -> Turn {
 // Operations 0 and 3: side (1; 1 is a server), whether CRC-32C is allowed (1), lowest version (1), whether it is padded
 // (1), whether it offers or takes the cipher (1), and that alone (1), the key's length (2), the key. Of all but the key
 // only the first n bytes are there, and what is not there is 0.
-fn begin(old: Link, inflight: u32, n: usize, lent: &mut [u8]) -> Turn {
-    let none = Turn {
-        link: old,
-        inflight,
-        more: false,
-    };
+fn begin(old: Link, n: usize, lent: &mut [u8]) -> Turn {
     let mut head = [0u8; 8];
     if !fill(&mut head, n) {
-        return none;
+        return Turn {
+            link: old,
+            more: false,
+        };
     }
     let size = wire::u16_at(&head, 6) as usize;
     if !fill(lent, size) {
-        return none;
+        return Turn {
+            link: old,
+            more: false,
+        };
     }
     let set = Settings {
         server: head[0] == 1,
@@ -77,60 +68,40 @@ fn begin(old: Link, inflight: u32, n: usize, lent: &mut [u8]) -> Turn {
         cipher: head[4] == 1,
         only: head[5] == 1,
     };
-    set_up(old, inflight, set, front(lent, size))
-}
-
-// Operation 4: the count (4).
-fn counted(link: Link) -> Turn {
-    let mut head = [0u8; 4];
-    let more = fill(&mut head, 4);
-    if more {
-        bytes(b"count");
-    }
     Turn {
-        link,
-        inflight: wire::u32_at(&head, 0),
-        more,
+        link: set_up(old, set, front(lent, size)),
+        more: true,
     }
 }
 
 // Operation 6.
-fn ciphered(link: Link, inflight: u32) -> Turn {
+fn ciphered(link: Link) -> Turn {
     if link.ciphered {
         bytes(b"cipher");
     } else {
         bytes(b"clear");
     }
-    Turn {
-        link,
-        inflight,
-        more: true,
-    }
+    Turn { link, more: true }
 }
 
-fn operation(op: u8, link: Link, inflight: u32, lent: &mut [u8]) -> Turn {
+fn operation(op: u8, link: Link, lent: &mut [u8]) -> Turn {
     match op {
-        0 => begin(link, inflight, 2, lent),
-        1 => receiving::receive(link, inflight, lent),
-        2 => sending::send_record(link, inflight, lent),
-        3 => begin(link, inflight, 8, lent),
-        4 => counted(link),
-        6 => ciphered(link, inflight),
-        _ => flushing::flush_record(link, inflight),
+        0 => begin(link, 2, lent),
+        1 => receiving::receive(link, lent),
+        2 => sending::send_record(link, lent),
+        3 => begin(link, 8, lent),
+        6 => ciphered(link),
+        _ => flushing::flush_record(link),
     }
 }
 
 // One record.
-fn record(link: Link, inflight: u32, lent: &mut [u8]) -> Turn {
+fn record(link: Link, lent: &mut [u8]) -> Turn {
     let mut op = [0u8; 1];
     if io::read_full(STDIN_FILENO, &mut op) < 1 {
-        return Turn {
-            link,
-            inflight,
-            more: false,
-        };
+        return Turn { link, more: false };
     }
-    let turn = operation(op[0], link, inflight, lent);
+    let turn = operation(op[0], link, lent);
     if turn.more {
         print::end(turn.link.closed);
     }
@@ -139,16 +110,14 @@ fn record(link: Link, inflight: u32, lent: &mut [u8]) -> Turn {
 
 fn records(first: Link, lent: &mut [u8]) {
     let mut link = first;
-    let mut inflight: u32 = 1;
     let mut turns = u64::MAX;
     while 0 < turns {
         turns -= 1;
-        let turn = record(link, inflight, lent);
+        let turn = record(link, lent);
         if !turn.more {
             return;
         }
         link = turn.link;
-        inflight = turn.inflight;
     }
 }
 

@@ -45,26 +45,17 @@ fn print_answer(answer: Arrival, s: &[u8], moment: Moment) {
 }
 
 // Our time (4), n (4), n bytes.
-pub(crate) fn receive(link: Link, inflight: u32, lent: &mut [u8]) -> Turn {
+pub(crate) fn receive(link: Link, lent: &mut [u8]) -> Turn {
     let mut head = [0u8; 8];
     if io::read_full(STDIN_FILENO, &mut head) < 8 {
-        return Turn {
-            link,
-            inflight,
-            more: false,
-        };
+        return Turn { link, more: false };
     }
     let moment = Moment {
         time: wire::u32_at(&head, 0),
-        inflight,
     };
     let n = size(wire::u32_at(&head, 4));
     if !fill(lent, n) {
-        return Turn {
-            link,
-            inflight,
-            more: false,
-        };
+        return Turn { link, more: false };
     }
     let s = front(lent, n);
     let r = receive_step(link, s, moment);
@@ -73,7 +64,6 @@ pub(crate) fn receive(link: Link, inflight: u32, lent: &mut [u8]) -> Turn {
     print_answer(answer, s, moment);
     Turn {
         link: next,
-        inflight,
         more: true,
     }
 }

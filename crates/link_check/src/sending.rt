@@ -89,14 +89,13 @@ pub(crate) fn print_answer(word: &[u8], answer: Sent, buffer: &[u8]) {
 }
 
 // The call that head tells, with these bytes as the payload or text; of a Nonce the first 32 are the point.
-fn call(link: Link, inflight: u32, buffer: &mut [u8], head: &[u8], payload: &[u8]) -> Step {
+fn call(link: Link, buffer: &mut [u8], head: &[u8], payload: &[u8]) -> Step {
     let mut random = [0u8; 16];
     store_bytes::copy(&mut random, 0, wire::part(head, 5, 16));
     let mut point = [0u8; 32];
     store_bytes::copy(&mut point, 0, front(payload, 32));
     let moment = Moment {
         time: wire::u32_at(head, 1),
-        inflight,
     };
     send_step(
         link,
@@ -109,11 +108,11 @@ fn call(link: Link, inflight: u32, buffer: &mut [u8], head: &[u8], payload: &[u8
 }
 
 // The call on a buffer of as many bytes as head tells, and its line.
-fn call_and_print(link: Link, inflight: u32, head: &[u8], payload: &[u8]) -> Link {
+fn call_and_print(link: Link, head: &[u8], payload: &[u8]) -> Link {
     let mut space = [0xa5u8; 81920];
     let buffer: &mut [u8] = &mut space;
     let room = least(size(wire::u32_at(head, 53)), buffer.len());
-    let r = call(link, inflight, &mut buffer[0..room], head, payload);
+    let r = call(link, &mut buffer[0..room], head, payload);
     let answer = r.answer;
     print_answer(b"sent", answer, front(buffer, room));
     r.link
@@ -121,26 +120,17 @@ fn call_and_print(link: Link, inflight: u32, head: &[u8], payload: &[u8]) -> Lin
 
 // Kind (1), time (4), random (16), own NetPID (12), peer's (12), Ping's ID (8), room (4), the fields of a message (28), n (4),
 // n bytes.
-pub(crate) fn send_record(link: Link, inflight: u32, lent: &mut [u8]) -> Turn {
+pub(crate) fn send_record(link: Link, lent: &mut [u8]) -> Turn {
     let mut head = [0u8; 89];
     if io::read_full(STDIN_FILENO, &mut head) < 89 {
-        return Turn {
-            link,
-            inflight,
-            more: false,
-        };
+        return Turn { link, more: false };
     }
     let n = size(wire::u32_at(&head, 85));
     if !fill(lent, n) {
-        return Turn {
-            link,
-            inflight,
-            more: false,
-        };
+        return Turn { link, more: false };
     }
     Turn {
-        link: call_and_print(link, inflight, &head, front(lent, n)),
-        inflight,
+        link: call_and_print(link, &head, front(lent, n)),
         more: true,
     }
 }

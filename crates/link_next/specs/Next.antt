@@ -6,7 +6,6 @@ use Rattle.link_state.specs.declared.Link.{Link}
 use Rattle.link_state.specs.declared.Moment.{Moment}
 use Rattle.link_state.specs.Turn.{stage_after}
 use Rattle.link_cipher.specs.Chosen.{encryption_at, chosen_of}
-use Rattle.link_fins.specs.Fins.{closed_after, their_fin_after}
 use Rattle.opening.specs.Nonce.{version_at}
 use Rattle.handshake_in.specs.Handshake.{flag_of}
 use Rattle.link_next.specs.KeepAlive.{awaits_after, owes_after, owed_after}
@@ -24,8 +23,6 @@ closed_of l =
       awaits = l.awaits;
       owes = l.owes;
       ciphered = l.ciphered;
-      ourfin = l.ourfin;
-      theirfin = l.theirfin;
       keyid = l.keyid;
       sends = l.sends;
       gets = l.gets;
@@ -34,7 +31,7 @@ closed_of l =
     }
 
 -- "On receive, 1 to 10, 21, and 17 for Ping and Pong close the link; nothing else does" (receive gives 17 for no other);
--- 24, 25, 26 and 28 close it too (document 02, A11, A7 and A6)
+-- 24, 25 and 26 close it too (document 02, A11 and A7)
 unfoldable pub closes_of : ℕ → Bool
 closes_of k =
     first (
@@ -43,7 +40,6 @@ closes_of k =
     ((k == 24), true) ∷
     ((k == 25), true) ∷
     ((k == 26), true) ∷
-    ((k == 28), true) ∷
     []
     ) (nat_le 1 k && nat_le k 10)
 
@@ -68,7 +64,7 @@ unfoldable pub after_of : Link → ℕ → List ℕ → Moment → Link
 after_of l kind b m =
     record {
       set = l.set;
-      closed = closed_after l kind m;
+      closed = l.closed;
       crc32c = agreed_after l kind b;
       version = version_after l kind b;
       stage = stage_after l.stage;
@@ -76,8 +72,6 @@ after_of l kind b m =
       awaits = awaits_after l kind;
       owes = owes_after l kind;
       ciphered = ciphered_after l kind b;
-      ourfin = l.ourfin;
-      theirfin = their_fin_after l kind;
       keyid = l.keyid;
       sends = l.sends;
       gets = (l.gets + 1) % 2 ^ 32;

@@ -5,12 +5,11 @@ ghost use Rattle.link_next.specs.Next.{closed_of, closes_of, refused_of, agreed_
 use crate::keep_alive::{awaits_after, owed_after, owes_after};
 use handshake_in::flagged;
 use link_cipher::chosen;
-use link_fins::{closed_after, their_fin_after};
 use link_state::{Link, Moment, stage_after};
 use packet::{HANDSHAKE, NONCE};
 use refusal::{
     BEYOND_OFFER, BODY_SIZE, FOURTH_WORD, LENGTH_UNDER_16, PADDING_NOT_ZERO, PING_OUT_OF_TURN,
-    RECEIVED_AFTER_FIN, VERSION_TOO_OLD,
+    VERSION_TOO_OLD,
 };
 use wire::u8_at;
 
@@ -38,9 +37,6 @@ fn closes(refusal: u8) -> bool
         return true;
     }
     if refusal == FOURTH_WORD {
-        return true;
-    }
-    if refusal == RECEIVED_AFTER_FIN {
         return true;
     }
     if refusal < LENGTH_UNDER_16 {
@@ -95,7 +91,7 @@ pub fn after(link: Link, kind: u32, b: &[u8], moment: Moment) -> Link
     let set = link.set;
     Link {
         set,
-        closed: closed_after(link, kind, moment),
+        closed: link.closed,
         crc32c: agreed_after(link, kind, b),
         version: version_after(link, kind, b),
         stage: stage_after(link.stage),
@@ -103,8 +99,6 @@ pub fn after(link: Link, kind: u32, b: &[u8], moment: Moment) -> Link
         awaits: awaits_after(link, kind),
         owes: owes_after(link, kind),
         ciphered: ciphered_after(link, kind, b),
-        ourfin: link.ourfin,
-        theirfin: their_fin_after(link, kind),
         keyid: link.keyid,
         sends: link.sends,
         gets: std::num::wrapping_add_u32(link.gets, 1),

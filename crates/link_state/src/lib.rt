@@ -38,8 +38,6 @@ pub struct Settings {
 pub struct Moment {
     // our time, in seconds
     pub time: u32,
-    // how many requests that we sent over the link are unanswered; no rule heeds it at a server
-    pub inflight: u32,
 }
 
 #[repr(C)]
@@ -61,9 +59,6 @@ pub struct Link {
     pub owes: bool,
     // whether the Nonces chose the cipher; both directions are ciphered from their Handshakes on
     pub ciphered: bool,
-    // whether we sent our fin, and whether the other side's came
-    pub ourfin: bool,
-    pub theirfin: bool,
     // the first four bytes of the key that the link was set up with, or 0: all that a link keeps of it
     pub keyid: u32,
     // the next packet's number, of each direction

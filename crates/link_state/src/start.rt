@@ -30,8 +30,6 @@ fn fresh(set: Settings, keyid: u32) -> Link
         awaits: false,
         owes: false,
         ciphered: false,
-        ourfin: false,
-        theirfin: false,
         keyid,
         sends: FIRST_NUMBER,
         gets: FIRST_NUMBER,

@@ -18,7 +18,6 @@ use Rattle.link_state.specs.SetUp.{fresh_of, key_refused, key_id_of, set_up_of}
 use Rattle.link_state.specs.Turn.{may_send}
 use Rattle.link_state.proofs.SetUpLaws.{set-up-takes}
 use Rattle.packet.specs.Sum.{sum_of}
-use Rattle.link_fins.specs.Fins.{ended_for, fin_refusal}
 use Rattle.packet.specs.Allowed.{allowed_of, refuses}
 use Rattle.packet_padding.specs.Padding.{tail_of}
 use Rattle.packet.specs.declared.Arrival.{Arrival}
@@ -90,17 +89,13 @@ module _ (l : Link) (len number kind : ℕ) (b : List ℕ) (m : Moment) where
       by_row No24 (not l.awaits) 21 _ (λ _. refl) (λ _.
       by_row No24 (not (eqb (id_at b) l.awaited)) 21 0 (λ _. refl) (λ _. refl)))
 
-  fin-no24 : No24 (fin_refusal l kind)
-  unfolding fin_refusal
-  fin-no24 = by_row No24 (ended_for l.set.server kind && l.theirfin) 28 0 (λ _. refl) (λ _. refl)
-
   body-no24 : No24 (body_before l kind b m)
   unfolding body_before
   body-no24 =
       by_row No24 (eqb kind 0x7acb87aa) (nonce_before l b m) _ (λ _. nonce-no24) (λ _.
       by_row No24 (eqb kind 0x7682eef5) (handshake_refusal l.set b) _ (λ _. handshake-no24) (λ _.
       by_row No24 (eqb kind 0x5730a2df) (ping_refusal l b) _ (λ _. ping-no24) (λ _.
-      by_row No24 (eqb kind 0x8430eaa7) (pong_refusal l b) _ (λ _. pong-no24) (λ _. fin-no24))))
+      by_row No24 (eqb kind 0x8430eaa7) (pong_refusal l b) 0 (λ _. pong-no24) (λ _. refl))))
 
 -- an answer that is no 24
 abbrev Known : Arrival → Type 0

@@ -1,11 +1,10 @@
 -- Receive without lowest versions: document 01's own rules, with what later requests than A11 have added (document 02,
--- A7: 25 and 26 close a link; A9: 9 is by the settings and KeyID; A6: 28, which closes it too). Assumes nothing.
+-- A7: 25 and 26 close a link; A9: 9 is by the settings and KeyID). Assumes nothing.
 use Rattle.std.specs.Prelude.{ℕ, Bool, true, not, ◌&&◌, List, [], ◌∷◌, length, ltb, leb, eqb}
 use Rattle.wire.specs.Bytes.{within}
 use Rattle.wire.specs.Choice.{pick, first}
 use Rattle.link_state.specs.declared.Link.{Link}
 use Rattle.link_state.specs.declared.Moment.{Moment}
-use Rattle.link_fins.specs.Fins.{fin_refusal}
 use Rattle.packet.specs.Allowed.{refuses}
 use Rattle.packet.specs.declared.Arrival.{Arrival}
 use Rattle.packet.specs.declared.Arrival.TheVariants.{Incomplete, Packet, Refused}
@@ -30,7 +29,7 @@ nonce_before l b m =
     []
     ) 0
 
--- "then 7 to 10 or 17, 21"; and 28 (A6)
+-- "then 7 to 10 or 17, 21"
 unfoldable pub body_before : Link → ℕ → List ℕ → Moment → ℕ
 body_before l kind b m =
     first (
@@ -39,10 +38,9 @@ body_before l kind b m =
     (eqb kind 0x5730a2df, ping_refusal l b) ∷
     (eqb kind 0x8430eaa7, pong_refusal l b) ∷
     []
-    ) (fin_refusal l kind)
+    ) 0
 
--- "On receive, 1 to 10, 21, and 17 for Ping and Pong close the link; nothing else does"; and 25 and 26 (A7), 28
--- (A6)
+-- "On receive, 1 to 10, 21, and 17 for Ping and Pong close the link; nothing else does"; and 25 and 26 (A7)
 unfoldable pub closes_before : ℕ → Bool
 closes_before k =
     first (
@@ -50,7 +48,6 @@ closes_before k =
     (eqb k 21, true) ∷
     (eqb k 25, true) ∷
     (eqb k 26, true) ∷
-    (eqb k 28, true) ∷
     []
     ) (leb 1 k && leb k 10)
 

@@ -7,11 +7,13 @@
 
 mod read;
 mod slice;
+mod types;
 
 use invoke::Invoke;
 pub use read::read_message;
 use result::Reply;
 pub use slice::part_of;
+pub use types::{CANCEL, CLIENT_FIN, INVOKE, OLD_ERROR, RESULT, SERVER_FIN};
 
 // What a body means, or a refusal's number.
 #[derive(Drop)]

@@ -3,10 +3,10 @@ ghost use Rattle.std.specs.Prelude.{◌≡◌};
 ghost use Rattle.message.specs.ReadMessage.{of_invoke, of_reply, read_cancel, to_server, to_client, read_message};
 
 use crate::Message;
+use crate::types::{CANCEL, CLIENT_FIN, INVOKE, OLD_ERROR, RESULT, SERVER_FIN};
 use header::Side;
 use invoke::InvokeRead;
 use invoke_in::read_invoke;
-use message_types::{CANCEL, CLIENT_FIN, INVOKE, OLD_ERROR, RESULT, SERVER_FIN};
 use refusal::{BODY_SIZE, NUMBER_ZERO, TYPE_NOT_RPC};
 use result::{ReplyRead, read_old_error, read_result};
 use wire::{signed64, u64_at};

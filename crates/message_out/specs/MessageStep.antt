@@ -1,10 +1,8 @@
--- A message that a link sends (document 01, "Send order: 20, 22, 5, 21, 19, 12, 15, 2, 16"; 21 is of Ping and Pong;
--- document 02, A6: 29 "after 19"). Assumes nothing.
+-- A message that a link sends (document 01, "Send order: 20, 22, 5, 21, 19, 12, 15, 2, 16"; 21 is of Ping and Pong).
+-- Assumes nothing.
 use Rattle.std.specs.Prelude.{ℕ, false, List, [], ◌∷◌, length}
 use Rattle.wire.specs.Choice.{first}
 use Rattle.link_state.specs.declared.Link.{Link}
-use Rattle.link_state.specs.declared.Moment.{Moment}
-use Rattle.link_fins.specs.Fins.{finished_of}
 use Rattle.packet.specs.Allowed.{refuses}
 use Rattle.packet_out.specs.Size.{fits_of}
 use Rattle.packet_out.specs.declared.Sent.{Sent}
@@ -15,21 +13,20 @@ use Rattle.message_out.specs.Outgoing.{kind_of, body_of, wrong_way, number_zero,
 use Rattle.message_out.specs.declared.Outgoing as O
 
 -- the answer with the payload or text p and so much room: the whole order, then the packet's size
-unfoldable pub message_answer : Link → O.Outgoing → List ℕ → Moment → ℕ → Sent
-message_answer l w p m room =
+unfoldable pub message_answer : Link → O.Outgoing → List ℕ → ℕ → Sent
+message_answer l w p room =
     first (
     (refuses (send_refusal l (kind_of w) false), Refused (send_refusal l (kind_of w) false)) ∷
     (wrong_way l.set.server w, Refused 19) ∷
-    (finished_of l (kind_of w) m, Refused 29) ∷
     (number_zero w, Refused 12) ∷
     (payload_misread w p, Refused 15) ∷
     []
     ) (fits_of l (length (body_of w p)) room)
 
 -- the link after the call, and the answer
-unfoldable pub message_step : Link → O.Outgoing → List ℕ → Moment → ℕ → Step
-message_step l w p m room = step_by l (kind_of w) 0 (message_answer l w p m room)
+unfoldable pub message_step : Link → O.Outgoing → List ℕ → ℕ → Step
+message_step l w p room = step_by l (kind_of w) 0 (message_answer l w p room)
 
 -- the buffer b after the call: "Bytes past the packet stay"
-unfoldable pub message_buffer : Link → O.Outgoing → List ℕ → Moment → List ℕ → List ℕ
-message_buffer l w p m b = buffer_by l (kind_of w) (body_of w p) b (message_answer l w p m (length b))
+unfoldable pub message_buffer : Link → O.Outgoing → List ℕ → List ℕ → List ℕ
+message_buffer l w p b = buffer_by l (kind_of w) (body_of w p) b (message_answer l w p (length b))

@@ -4,8 +4,6 @@ use Rattle.std.specs.Prelude.{ℕ, ◌+◌, false, List, [], ◌∷◌, length, 
 use Rattle.std.proofs.lemmas.List.Edits.{sets}
 use Rattle.wire.specs.Choice.{first}
 use Rattle.link_state.specs.declared.Link.{Link}
-use Rattle.link_state.specs.declared.Moment.{Moment}
-use Rattle.link_fins.specs.Fins.{finished_of}
 use Rattle.packet.specs.Allowed.{refuses}
 use Rattle.body.specs.declared.Written as W
 use Rattle.packet_out.specs.Size.{size_of}
@@ -13,13 +11,12 @@ use Rattle.send_rules.specs.Control.{send_refusal}
 use Rattle.message_out.specs.Outgoing.{kind_of, body_of, wrong_way, number_zero, payload_misread}
 use Rattle.message_out.specs.declared.Outgoing as O
 
--- 20, 22, 5, 19, 29, which need no body. 0 is none
-unfoldable pub early_refusal : Link → O.Outgoing → Moment → ℕ
-early_refusal l w m =
+-- 20, 22, 5, 19, which need no body. 0 is none
+unfoldable pub early_refusal : Link → O.Outgoing → ℕ
+early_refusal l w =
     first (
     (refuses (send_refusal l (kind_of w) false), send_refusal l (kind_of w) false) ∷
     (wrong_way l.set.server w, 19) ∷
-    (finished_of l (kind_of w) m, 29) ∷
     []
     ) 0
 

@@ -1,13 +1,12 @@
-// What is refused before the body is looked at: 20, 22, 5, 19 and 29.
+// What is refused before the body is looked at: 20, 22, 5 and 19.
 ghost use Rattle.std.specs.Prelude.{◌≡◌};
 ghost use Rattle.message_out.specs.Outgoing.{kind_of, wrong_way};
 ghost use Rattle.message_out.specs.Parts.{early_refusal};
 
 use crate::Outgoing;
-use link_fins::finished;
-use link_state::{Link, Moment};
-use message_types::{CANCEL, CLIENT_FIN, INVOKE, RESULT, SERVER_FIN};
-use refusal::{SENT_AFTER_FIN, TYPE_NOT_RPC};
+use link_state::Link;
+use message::{CANCEL, CLIENT_FIN, INVOKE, RESULT, SERVER_FIN};
+use refusal::TYPE_NOT_RPC;
 use send_rules::send_refusal;
 
 // The type of its packet.
@@ -51,19 +50,15 @@ fn wrong_way(server: bool, what: Outgoing) -> bool
 }
 
 // A refusal's number, or 0.
-pub(crate) fn early_refusal(link: Link, what: Outgoing, moment: Moment) -> u8
-    ensures { result ≡ early_refusal link what moment }
+pub(crate) fn early_refusal(link: Link, what: Outgoing) -> u8
+    ensures { result ≡ early_refusal link what }
 {
-    let kind = kind_of(what);
-    let early = send_refusal(link, kind, false);
+    let early = send_refusal(link, kind_of(what), false);
     if early != 0 {
         return early;
     }
     if wrong_way(link.set.server, what) {
         return TYPE_NOT_RPC;
-    }
-    if finished(link, kind, moment) {
-        return SENT_AFTER_FIN;
     }
     0
 }

@@ -6,23 +6,17 @@ use crate::Outgoing;
 use crate::early::{early_refusal, kind_of};
 use crate::place::place_body;
 use body::Written;
-use link_state::{Link, Moment};
+use link_state::Link;
 use packet_out::{Sent, seal};
 use packet_padding::tail;
 use send_rules::{Step, sent};
 
 // The message as a packet at the front of the buffer, and the link after it; or a refusal.
-pub fn message_step(
-    link: Link,
-    buf: &mut [u8],
-    what: Outgoing,
-    payload: &[u8],
-    moment: Moment,
-) -> Step
-    ensures { (result ≡ message_step link what payload.now moment (length buf.old))
-        × (buf.new ≡ message_buffer link what payload.now moment buf.old) }
+pub fn message_step(link: Link, buf: &mut [u8], what: Outgoing, payload: &[u8]) -> Step
+    ensures { (result ≡ message_step link what payload.now (length buf.old))
+        × (buf.new ≡ message_buffer link what payload.now buf.old) }
 {
-    let early = early_refusal(link, what, moment);
+    let early = early_refusal(link, what);
     if early != 0 {
         return Step {
             link,

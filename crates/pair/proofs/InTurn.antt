@@ -20,7 +20,6 @@ use Rattle.packet.specs.declared.Arrival.TheVariants.{Packet}
 use Rattle.packet_out.specs.Size.{size_of, fits_of}
 use Rattle.packet_out.specs.declared.Sent.{Sent}
 use Rattle.packet_out.specs.declared.Sent.TheVariants.{Written, Refused}
-use Rattle.link_fins.specs.Fins.{closed_after}
 use Rattle.link_next.specs.KeepAlive.{ping_refusal, pong_refusal, awaits_after, owes_after, owed_after}
 use Rattle.link_next.specs.Next.{after_of}
 use Rattle.link.specs.Receive.{body_refusal, gives, receive_of}
@@ -78,13 +77,13 @@ owing-by l k l2 k2 a b c d o =
 
 module _ (l k : Link) (a : Alive l k) (m : Moment) where
   -- but for what they owe, they are as before
-  alive-by : (kind id n : ℕ) (body : List ℕ) → allowed_of k kind ≡ true → closed_after k kind m ≡ k.closed
+  alive-by : (kind id n : ℕ) (body : List ℕ) → allowed_of k kind ≡ true
       → Owing (sent_of l kind id n) (after_of k kind body m) → Owing (after_of k kind body m) (sent_of l kind id n)
       → Alive (sent_of l kind id n) (after_of k kind body m)
   unfolding sent_of after_of
-  alive-by kind id n body may still there back =
+  alive-by kind id n body may there back =
       record {
-        there = awaits-again k l a.open_k a.open_l kind id n body m may still a.there;
+        there = awaits-again k l a.open_k a.open_l kind id n body m may a.there;
         back = awaits-still k l a.open_k a.open_l kind id n body m may a.back;
         open_l = rw (stays l.stage a.open_l) a.open_l;
         open_k = rw (stays k.stage a.open_k) a.open_k;
@@ -95,12 +94,11 @@ module _ (l k : Link) (a : Alive l k) (m : Moment) where
       }
 
   -- a packet of another type leaves what they owe
-  pub alive-after-message : (kind n : ℕ) (body : List ℕ) → allowed_of k kind ≡ true → closed_after k kind m ≡ k.closed
-      → eqb kind 0x5730a2df ≡ false
-      → eqb kind 0x8430eaa7 ≡ false → Alive (sent_of l kind 0 n) (after_of k kind body m)
+  pub alive-after-message : (kind n : ℕ) (body : List ℕ) → allowed_of k kind ≡ true → eqb kind 0x5730a2df ≡ false → eqb kind 0x8430eaa7 ≡ false
+      → Alive (sent_of l kind 0 n) (after_of k kind body m)
   unfolding sent_of after_of awaits_sent awaited_sent owes_sent awaits_after owes_after owed_after
-  alive-after-message kind n body may still no_ping no-pong =
-      alive-by kind 0 n body may still
+  alive-after-message kind n body may no_ping no-pong =
+      alive-by kind 0 n body may
       (owing-by l k (sent_of l kind 0 n) (after_of k kind body m) (rw no_ping) (rw no_ping) (rw no_ping) (rw no_ping) a.owing_k)
       (owing-by k l (after_of k kind body m) (sent_of l kind 0 n) (rw no-pong) refl (rw no-pong) refl a.owing_l)
 
@@ -117,9 +115,9 @@ module _ (l k : Link) (a : Alive l k) (m : Moment) where
         (ping-allowed k a.open_k) a.number_l (omega arith) (lit< tt) (small_bytes 8 id) m (simp (eight, free))
 
     pub alive-after-ping : Alive (sent_of l 0x5730a2df id n) (after_of k 0x5730a2df (bytes 8 id) m)
-    unfolding sent_of after_of closed_after awaits_sent awaited_sent owes_sent awaits_after owes_after owed_after
+    unfolding sent_of after_of awaits_sent awaited_sent owes_sent awaits_after owes_after owed_after
     alive-after-ping =
-        alive-by 0x5730a2df id n (bytes 8 id) (ping-allowed k a.open_k) refl
+        alive-by 0x5730a2df id n (bytes 8 id) (ping-allowed k a.open_k)
         (record { turn = refl; id = λ q. sym (id-read id fits); fits = rw (id-read id fits) fits })
         (owing-by k l (after_of k 0x5730a2df (bytes 8 id) m) (sent_of l 0x5730a2df id n) refl refl refl refl a.owing_l)
 
@@ -138,9 +136,9 @@ module _ (l k : Link) (a : Alive l k) (m : Moment) where
         (pong-allowed k a.open_k) a.number_l (omega arith) (lit< tt) (small_bytes 8 l.owed) m (simp (eight, waits, id-read l.owed a.owing_l.fits, same, eq-eqb l.owed l.owed refl))
 
     pub alive-after-pong : Alive (sent_of l 0x8430eaa7 0 n) (after_of k 0x8430eaa7 (bytes 8 l.owed) m)
-    unfolding sent_of after_of closed_after awaits_sent awaited_sent owes_sent awaits_after owes_after owed_after
+    unfolding sent_of after_of awaits_sent awaited_sent owes_sent awaits_after owes_after owed_after
     alive-after-pong =
-        alive-by 0x8430eaa7 0 n (bytes 8 l.owed) (pong-allowed k a.open_k) refl
+        alive-by 0x8430eaa7 0 n (bytes 8 l.owed) (pong-allowed k a.open_k)
         (owing-by l k (sent_of l 0x8430eaa7 0 n) (after_of k 0x8430eaa7 (bytes 8 l.owed) m) refl refl refl refl a.owing_k)
         (record { turn = refl; id = λ q. absurd (false≢true q); fits = a.owing_l.fits })
 

@@ -22,7 +22,6 @@ use Rattle.packet_out.specs.Size.{size_of, fits_of}
 use Rattle.packet_out.specs.declared.Sent.TheVariants.{Written}
 use Rattle.packet_out.proofs.PacketLaws.{length-packet}
 use Rattle.link.specs.Look.{turn_refusal}
-use Rattle.link_fins.specs.Fins.{closed_after}
 use Rattle.link_next.specs.KeepAlive.{awaits_after, owes_after}
 use Rattle.link_next.specs.Next.{after_of}
 use Rattle.link.specs.Receive.{gives, receive_of}
@@ -111,8 +110,7 @@ module _ (l k : Link) (there : Awaits k l) (back : Awaits l k) (over-l : 4 ≤ l
   owed = (ping-received k l there over-k number_l b1 m1 id fits free).1.1
 
   there1 : Awaits k1 l1
-  unfolding closed_after
-  there1 = awaits-again k l over-k over-l 0x5730a2df id 24 (bytes 8 id) m1 (ping-allowed k over-k) refl there
+  there1 = awaits-again k l over-k over-l 0x5730a2df id 24 (bytes 8 id) m1 (ping-allowed k over-k) there
 
   back1 : Awaits l1 k1
   back1 = awaits-still k l over-k over-l 0x5730a2df id 24 (bytes 8 id) m1 (ping-allowed k over-k) back
@@ -154,11 +152,11 @@ module _ (l k : Link) (there : Awaits k l) (back : Awaits l k) (over-l : 4 ≤ l
 
   -- KEPT ALIVE: no Ping is unanswered and no Pong is owed, and each waits for the other's next packet
   pub at_rest : ((l2.awaits ≡ false) × (k2.owes ≡ false)) × (Awaits k2 l2 × Awaits l2 k2)
-  unfolding after_of closed_after awaits_after sent_of owes_sent
+  unfolding after_of awaits_after sent_of owes_sent
   at_rest = (
     (refl, refl),
     (
       awaits-still l1 k1 over-l1 over-k1 0x8430eaa7 0 24 (bytes 8 k1.owed) m2 (pong-allowed l1 over-l1) there1,
-      awaits-again l1 k1 over-l1 over-k1 0x8430eaa7 0 24 (bytes 8 k1.owed) m2 (pong-allowed l1 over-l1) refl back1,
+      awaits-again l1 k1 over-l1 over-k1 0x8430eaa7 0 24 (bytes 8 k1.owed) m2 (pong-allowed l1 over-l1) back1,
     ),
   )

@@ -26,7 +26,6 @@ use Rattle.packet_out.specs.declared.Sent.TheVariants.{Written}
 use Rattle.opening.specs.Nonce.{nonce_refusal}
 use Rattle.handshake_in.specs.Handshake.{flag_of, handshake_refusal}
 use Rattle.link.specs.Look.{turn_refusal}
-use Rattle.link_fins.specs.Fins.{fin_for, closed_after, their_fin_after, our_fin_sent}
 use Rattle.link_next.specs.KeepAlive.{awaits_after, owes_after, owed_after}
 use Rattle.link_next.specs.Next.{agreed_after, version_after, ciphered_after, after_of}
 use Rattle.link.specs.Receive.{body_refusal, gives, receive_of}
@@ -174,12 +173,12 @@ module _ (x y : Choices) (meet : Meet x y) (c s : Caller) (b1 b2 b3 b4 : List â„
 
   -- the client's Nonce
   pub sent1 : nonce_step c0 c.drawn c.told (length b1) â‰¡ record { link = c1; answer = Written 76 }
-  unfolding nonce_step our_nonce version_of encryption_of sent_key_id sent_point offers_or_takes send_refusal may_send allowed_of sent_of fin_for our_fin_sent
+  unfolding nonce_step our_nonce version_of encryption_of sent_key_id sent_point offers_or_takes send_refusal may_send allowed_of sent_of
       stage_after awaits_sent awaited_sent owes_sent size_of tail_of pads_of padded_of phase_after
   sent1 = sends c0 s0 0x7acb87aa nonce_c b1 60 len-c (lit< tt) g.room1 refl refl
 
   pub got1 : receive_of s0 (nonce_buffer c0 c.drawn c.told b1) s.heard â‰¡ gives s1 (Packet 0x7acb87aa 76 12 60)
-  unfolding nonce_buffer our_nonce castagnoli_of turn_refusal send_refusal may_send length_refusal allowed_of body_refusal after_of fin_for closed_after their_fin_after
+  unfolding nonce_buffer our_nonce castagnoli_of turn_refusal send_refusal may_send length_refusal allowed_of body_refusal after_of
       agreed_after version_after ciphered_after stage_after awaits_after owes_after owed_after version_of encryption_of
       sent_key_id sent_point offers_or_takes size_of tail_of pads_of padded_of
   got1 =
@@ -195,12 +194,12 @@ module _ (x y : Choices) (meet : Meet x y) (c s : Caller) (b1 b2 b3 b4 : List â„
 
   -- the server's Nonce
   pub sent2 : nonce_step s1 s.drawn s.told (length b2) â‰¡ record { link = s2; answer = Written 76 }
-  unfolding nonce_step our_nonce version_of encryption_of sent_key_id sent_point offers_or_takes send_refusal may_send allowed_of sent_of fin_for our_fin_sent
+  unfolding nonce_step our_nonce version_of encryption_of sent_key_id sent_point offers_or_takes send_refusal may_send allowed_of sent_of
       stage_after awaits_sent awaited_sent owes_sent size_of tail_of pads_of padded_of phase_after
   sent2 = sends s1 c1 0x7acb87aa nonce_s b2 60 len-s (lit< tt) g.room2 refl refl
 
   pub got2 : receive_of c1 (nonce_buffer s1 s.drawn s.told b2) c.heard â‰¡ gives c2 (Packet 0x7acb87aa 76 12 60)
-  unfolding nonce_buffer our_nonce castagnoli_of turn_refusal send_refusal may_send length_refusal allowed_of body_refusal after_of fin_for closed_after their_fin_after
+  unfolding nonce_buffer our_nonce castagnoli_of turn_refusal send_refusal may_send length_refusal allowed_of body_refusal after_of
       agreed_after version_after ciphered_after stage_after awaits_after owes_after owed_after version_of encryption_of
       sent_key_id sent_point offers_or_takes size_of tail_of pads_of padded_of
   got2 =
@@ -216,14 +215,14 @@ module _ (x y : Choices) (meet : Meet x y) (c s : Caller) (b1 b2 b3 b4 : List â„
 
   -- the client's Handshake
   pub sent3 : handshake_step c2 c.pid s.pid (length b3) â‰¡ record { link = c3; answer = Written 44 }
-  unfolding handshake_step flags_of send_refusal may_send allowed_of sent_of fin_for our_fin_sent stage_after awaits_sent awaited_sent owes_sent size_of
+  unfolding handshake_step flags_of send_refusal may_send allowed_of sent_of stage_after awaits_sent awaited_sent owes_sent size_of
       tail_of pads_of padded_of phase_after
   sent3 =
       sends c2 s2 0x7682eef5 (hand x.allows c.pid s.pid) b3 28 (length-handshake _ c.pid s.pid) (lit< tt)
       g.room3 refl (hand-size (x.padded || z))
 
   got3 : receive_of s2 (handshake_buffer c2 c.pid s.pid b3) m3 â‰¡ gives s3 (Packet 0x7682eef5 44 12 28)
-  unfolding handshake_buffer castagnoli_of turn_refusal send_refusal may_send length_refusal allowed_of body_refusal after_of fin_for closed_after their_fin_after
+  unfolding handshake_buffer castagnoli_of turn_refusal send_refusal may_send length_refusal allowed_of body_refusal after_of
       agreed_after version_after ciphered_after stage_after awaits_after owes_after owed_after flags_of size_of tail_of pads_of
       padded_of
   got3 =
@@ -235,7 +234,7 @@ module _ (x y : Choices) (meet : Meet x y) (c s : Caller) (b1 b2 b3 b4 : List â„
 
   -- the server's Handshake, still under CRC-32
   pub sent4 : handshake_step s3 s.pid c.pid (length b4) â‰¡ record { link = open_of true y z (y.allows && x.allows); answer = Written 44 }
-  unfolding handshake_step flags_of send_refusal may_send allowed_of sent_of fin_for our_fin_sent stage_after awaits_sent awaited_sent owes_sent size_of
+  unfolding handshake_step flags_of send_refusal may_send allowed_of sent_of stage_after awaits_sent awaited_sent owes_sent size_of
       tail_of pads_of padded_of phase_after
   sent4 =
       sends s3 c3 0x7682eef5 (hand (y.allows && x.allows) s.pid c.pid) b4 28 (length-handshake _ s.pid c.pid)
@@ -243,7 +242,7 @@ module _ (x y : Choices) (meet : Meet x y) (c s : Caller) (b1 b2 b3 b4 : List â„
 
   got4 : receive_of c3 (handshake_buffer s3 s.pid c.pid b4) m4
       â‰¡ gives (open_of false x z (x.allows && (y.allows && x.allows))) (Packet 0x7682eef5 44 12 28)
-  unfolding handshake_buffer castagnoli_of turn_refusal send_refusal may_send length_refusal allowed_of body_refusal after_of fin_for closed_after their_fin_after
+  unfolding handshake_buffer castagnoli_of turn_refusal send_refusal may_send length_refusal allowed_of body_refusal after_of
       agreed_after version_after ciphered_after stage_after awaits_after owes_after owed_after flags_of size_of tail_of pads_of
       padded_of
   got4 =

@@ -9,7 +9,6 @@ use lib.Dec.{eqb}
 use Rattle.link_state.specs.declared.Link.{Link}
 use Rattle.link_state.specs.declared.Moment.{Moment}
 use Rattle.link_state.specs.Turn.{stage_after}
-use Rattle.link_fins.specs.Fins.{closed_after}
 use Rattle.packet.specs.Sum.{castagnoli_of}
 use Rattle.packet.specs.Allowed.{allowed_of}
 use Rattle.packet_padding.specs.Padding.{padded_of, pads_of}
@@ -54,10 +53,9 @@ module _ (k l : Link) (over-k : 4 ≤ k.stage) (over-l : 4 ≤ l.stage) (kind id
   unfolding castagnoli_of sent_of
   same-sum-l = rw (stays l.stage over-l)
 
-  -- k is closed by no packet but a server fin
-  same-turn-k : closed_after k kind m ≡ k.closed → turn_refusal (after_of k kind body m) ≡ turn_refusal k
+  same-turn-k : turn_refusal (after_of k kind body m) ≡ turn_refusal k
   unfolding turn_refusal after_of
-  same-turn-k e = rw (stays k.stage over-k, e)
+  same-turn-k = rw (stays k.stage over-k)
 
   pub same-turn-l : turn_refusal (sent_of l kind id n) ≡ turn_refusal l
   unfolding turn_refusal sent_of
@@ -71,16 +69,16 @@ module _ (k l : Link) (over-k : 4 ≤ k.stage) (over-l : 4 ≤ l.stage) (kind id
   unfolding pads_of padded_of sent_of
   same-profile-l = rw (stays l.stage over-l)
 
-  -- k waits for l's next packet again, if this one does not close it
-  pub awaits-again : closed_after k kind m ≡ k.closed → Awaits k l → Awaits (after_of k kind body m) (sent_of l kind id n)
+  -- k waits for l's next packet again
+  pub awaits-again : Awaits k l → Awaits (after_of k kind body m) (sent_of l kind id n)
   unfolding after_of sent_of
-  awaits-again e a =
+  awaits-again a =
       record {
         number = ap (λ (x : ℕ). (x + 1) % 2 ^ 32) a.number;
         checksum = same-sum-k ∙ (a.checksum ∙ sym same-sum-l);
         stage = ap stage_after a.stage;
         profile = same-profile-k ∙ (a.profile ∙ sym same-profile-l);
-        turn = same-turn-k e ∙ a.turn;
+        turn = same-turn-k ∙ a.turn;
       }
 
   -- and the other direction is as it was

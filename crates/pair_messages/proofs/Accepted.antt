@@ -9,8 +9,6 @@ use lib.ListN.{length}
 use lib.Dec.{ltb}
 use Rattle.wire.specs.Choice.{pick}
 use Rattle.link_state.specs.declared.Link.{Link}
-use Rattle.link_state.specs.declared.Moment.{Moment}
-use Rattle.link_fins.specs.Fins.{finished_of}
 use Rattle.packet.specs.Allowed.{refuses}
 use Rattle.packet_out.specs.Size.{size_of, fits_of}
 use Rattle.packet_out.specs.declared.Sent.TheVariants.{Written, Refused}
@@ -19,51 +17,37 @@ use Rattle.message_out.specs.Outgoing.{kind_of, body_of, wrong_way, number_zero,
 use Rattle.message_out.specs.MessageStep.{message_answer}
 use Rattle.message_out.specs.declared.Outgoing.{Outgoing}
 
--- none of the send order's rows applies: 19, 29, 12, 15, 2, 16; and the size is the packet's
-pub record Accepted (l : Link) (w : Outgoing) (p : List ℕ) (here : Moment) (room n : ℕ) : Type 0 where
+-- none of the send order's rows applies: 19, 12, 15, 2, 16; and the size is the packet's
+pub record Accepted (l : Link) (w : Outgoing) (p : List ℕ) (room n : ℕ) : Type 0 where
   pub way : wrong_way l.set.server w ≡ false
-  pub early : finished_of l (kind_of w) here ≡ false
   pub some : number_zero w ≡ false
   pub plain : payload_misread w p ≡ false
   pub short : length (body_of w p) ≤ 16777199
   pub fits : size_of l (length (body_of w p)) ≤ room
   pub size : n ≡ size_of l (length (body_of w p))
 
-module _ (l : Link) (w : Outgoing) (p : List ℕ) (here : Moment) (room n : ℕ) where
+module _ (l : Link) (w : Outgoing) (p : List ℕ) (room n : ℕ) where
   abbrev len : ℕ
   len = length (body_of w p)
 
   abbrev size : ℕ
   size = size_of l len
 
-  by_tests : (r x v y z t u : Bool) (k : ℕ) → wrong_way l.set.server w ≡ x → finished_of l (kind_of w) here ≡ v
-      → number_zero w ≡ y → payload_misread w p ≡ z → ltb 16777199 len ≡ t → ltb room size ≡ u
-      → pick r (Refused k) (pick x (Refused 19) (pick v (Refused 29) (pick y (Refused 12) (pick z (Refused 15)
-      (pick t (Refused 2) (pick u (Refused 16) (Written size))))))) ≡ Written n
-      → Accepted l w p here room n
-  by_tests true x v y z t u k ex ev ey ez et eu h = let q : ◌≡◌ {A = ℕ} 0 1 = cc in absurd (omega arith)
-  by_tests false true v y z t u k ex ev ey ez et eu h = let q : ◌≡◌ {A = ℕ} 0 1 = cc in absurd (omega arith)
-  by_tests false false true y z t u k ex ev ey ez et eu h = let q : ◌≡◌ {A = ℕ} 0 1 = cc in absurd (omega arith)
-  by_tests false false false true z t u k ex ev ey ez et eu h = let q : ◌≡◌ {A = ℕ} 0 1 = cc in absurd (omega arith)
-  by_tests false false false false true t u k ex ev ey ez et eu h = let q : ◌≡◌ {A = ℕ} 0 1 = cc in absurd (omega arith)
-  by_tests false false false false false true u k ex ev ey ez et eu h = let q : ◌≡◌ {A = ℕ} 0 1 = cc in absurd (omega arith)
-  by_tests false false false false false false true k ex ev ey ez et eu h = let q : ◌≡◌ {A = ℕ} 0 1 = cc in absurd (omega arith)
-  by_tests false false false false false false false k ex ev ey ez et eu h =
+  by_tests : (r x y z t u : Bool) (k : ℕ) → wrong_way l.set.server w ≡ x → number_zero w ≡ y → payload_misread w p ≡ z → ltb 16777199 len ≡ t → ltb room size ≡ u
+      → pick r (Refused k) (pick x (Refused 19) (pick y (Refused 12) (pick z (Refused 15) (pick t (Refused 2) (pick u (Refused 16) (Written size)))))) ≡ Written n
+      → Accepted l w p room n
+  by_tests true x y z t u k ex ey ez et eu h = let q : ◌≡◌ {A = ℕ} 0 1 = cc in absurd (omega arith)
+  by_tests false true y z t u k ex ey ez et eu h = let q : ◌≡◌ {A = ℕ} 0 1 = cc in absurd (omega arith)
+  by_tests false false true z t u k ex ey ez et eu h = let q : ◌≡◌ {A = ℕ} 0 1 = cc in absurd (omega arith)
+  by_tests false false false true t u k ex ey ez et eu h = let q : ◌≡◌ {A = ℕ} 0 1 = cc in absurd (omega arith)
+  by_tests false false false false true u k ex ey ez et eu h = let q : ◌≡◌ {A = ℕ} 0 1 = cc in absurd (omega arith)
+  by_tests false false false false false true k ex ey ez et eu h = let q : ◌≡◌ {A = ℕ} 0 1 = cc in absurd (omega arith)
+  by_tests false false false false false false k ex ey ez et eu h =
       let q : size ≡ n = cc in
-      record {
-        way = ex;
-        early = ev;
-        some = ey;
-        plain = ez;
-        short = ltb-false 16777199 len et;
-        fits = ltb-false room size eu;
-        size = omega arith;
-      }
+      record { way = ex; some = ey; plain = ez; short = ltb-false 16777199 len et; fits = ltb-false room size eu; size = omega arith }
 
-pub accepted : (l : Link) (w : Outgoing) (p : List ℕ) (here : Moment) (room n : ℕ)
-    → message_answer l w p here room ≡ Written n → Accepted l w p here room n
+pub accepted : (l : Link) (w : Outgoing) (p : List ℕ) (room n : ℕ) → message_answer l w p room ≡ Written n → Accepted l w p room n
 unfolding message_answer fits_of
-accepted l w p here room n h =
-    by_tests l w p here room n (refuses (send_refusal l (kind_of w) false)) (wrong_way l.set.server w)
-    (finished_of l (kind_of w) here) (number_zero w) (payload_misread w p) (ltb 16777199 (length (body_of w p)))
-    (ltb room (size_of l (length (body_of w p)))) (send_refusal l (kind_of w) false) refl refl refl refl refl refl h
+accepted l w p room n h =
+    by_tests l w p room n (refuses (send_refusal l (kind_of w) false)) (wrong_way l.set.server w) (number_zero w) (payload_misread w p)
+    (ltb 16777199 (length (body_of w p))) (ltb room (size_of l (length (body_of w p)))) (send_refusal l (kind_of w) false) refl refl refl refl refl h

@@ -2,17 +2,15 @@
 use native.Mathlib.Omega.{arith}
 use borrow.Author.Tests.{le-ltb}
 use mathlib.Core.Path.{◌≡◌, refl, ap, sym, ◌∙◌}
-use mathlib.Core.Bool.{Bool, true, false, not, ◌&&◌, ◌||◌}
+use mathlib.Core.Bool.{Bool, true, false}
 use mathlib.Core.List.{List, ◌++◌}
 use Prim.Native.Nat.{ℕ, ◌+◌, ◌≤◌, ◌<◌, ◌^◌}
 use lib.ListN.{length, drop}
 use lib.Dec.{ltb, eqb, lit<}
-use Rattle.wire.specs.Choice.{pick}
 use Rattle.wire.proofs.StoreLaws.{front-stored}
 use Rattle.wire.proofs.ByteLaws.{Small}
 use Rattle.link_state.specs.declared.Link.{Link}
 use Rattle.link_state.specs.declared.Moment.{Moment}
-use Rattle.link_fins.specs.Fins.{fin_for, ended_for, fin_refusal, finished_of}
 use Rattle.packet.specs.Allowed.{allowed_of}
 use Rattle.packet_head.specs.Head.{length_refusal}
 use Rattle.packet.specs.Body as Body
@@ -63,43 +61,19 @@ module _ (k : Link) (over : 4 ≤ k.stage) where
   unfolding allowed_of
   allowed kind pl = simp (no-opening, le-ltb k.stage 2 (omega arith), pl.nonce, pl.handshake)
 
-pub no-refusal : (k : Link) (kind : ℕ) (body : List ℕ) (m : Moment) → Plain kind → fin_refusal k kind ≡ 0
-    → body_refusal k kind body m ≡ 0
+pub no-refusal : (k : Link) (kind : ℕ) (body : List ℕ) (m : Moment) → Plain kind → body_refusal k kind body m ≡ 0
 unfolding body_refusal
-no-refusal k kind body m pl e = simp (pl.nonce, pl.handshake, pl.ping, pl.pong, e)
+no-refusal k kind body m pl = simp (pl.nonce, pl.handshake, pl.ping, pl.pong)
 
-or_left : (o x : Bool) → (o || x) ≡ false → o ≡ false
-or_left false x e = refl
-or_left true x e = let z : ◌≡◌ {A = ℕ} 0 1 = cc in absurd (omega arith)
-
-none-late : (ended t : Bool) → t ≡ false → ◌≡◌ {A = ℕ} (pick (ended && t) 28 0) 0
-none-late false t e = refl
-none-late true t e = rw e
-
--- NEVER 28: what a link may send after the fins that it has sent, the peer that has heard no other fin of it takes
-pub not_late : (l k : Link) (w : Outgoing) (here : Moment) → wrong_way l.set.server w ≡ false
-    → finished_of l (kind_of w) here ≡ false → k.theirfin ≡ l.ourfin → fin_refusal k (kind_of w) ≡ 0
-unfolding kind_of wrong_way finished_of fin_refusal ended_for fin_for
-not_late l k (Invoke n a t m) here way early same =
-    none-late k.set.server k.theirfin (same ∙ or_left l.ourfin l.theirfin early)
-not_late l k (Cancel n) here way early same = refl
-not_late l k ClientFin here way early same =
-    none-late k.set.server k.theirfin (same ∙ or_left l.ourfin (eqb here.inflight 0) early)
-not_late l k (Payload n) here way early same = refl
-not_late l k (Error n code) here way early same = refl
-not_late l k ServerFin here way early same = none-late (not k.set.server) k.theirfin (same ∙ early)
-not_late l k (Unknown kind) here way early same = let z : ◌≡◌ {A = ℕ} 0 1 = cc in absurd (omega arith)
-
-module _ (l k : Link) (w : Outgoing) (p b : List ℕ) (here : Moment) (n : ℕ)
-    (sent : message_answer l w p here (length b) ≡ Written n) where
+module _ (l k : Link) (w : Outgoing) (p b : List ℕ) (n : ℕ) (sent : message_answer l w p (length b) ≡ Written n) where
   abbrev body : List ℕ
   body = body_of w p
 
   abbrev packet : List ℕ
   packet = packet_of l (kind_of w) body
 
-  abbrev known : Accepted l w p here (length b) n
-  known = accepted l w p here (length b) n sent
+  abbrev known : Accepted l w p (length b) n
+  known = accepted l w p (length b) n sent
 
   pub sent-plain : Plain (kind_of w)
   sent-plain = plain l.set.server w known.way
@@ -109,23 +83,22 @@ module _ (l k : Link) (w : Outgoing) (p b : List ℕ) (here : Moment) (n : ℕ)
   may-come over = allowed k over (kind_of w) sent-plain
 
   -- the whole buffer: the packet, and what stood behind it
-  pub whole : message_buffer l w p here b ≡ packet ++ drop (length packet) b
+  pub whole : message_buffer l w p b ≡ packet ++ drop (length packet) b
   unfolding message_buffer
   whole =
       let e : length packet ≡ size_of l (length body) = length-packet l (kind_of w) body in
       ap (buffer_by l (kind_of w) body b) sent ∙ front-stored b packet (omega (arith, known.fits))
 
   -- the body, as the second call hands it back
-  pub body-handed : Body.body_of (message_buffer l w p here b) (Packet (kind_of w) n 12 (length body)) ≡ body
+  pub body-handed : Body.body_of (message_buffer l w p b) (Packet (kind_of w) n 12 (length body)) ≡ body
   unfolding Body.body_of
   body-handed = rw whole (reads-body l (kind_of w) body (drop (length packet) b))
 
   -- MESSAGES ARE RECEIVED: the packet is handed over, and the link steps by it
-  pub message-received : Awaits k l → k.theirfin ≡ l.ourfin → 4 ≤ k.stage → l.sends < 2 ^ 32 → Small p → (m : Moment)
-      → receive_of k (message_buffer l w p here b) m ≡ gives (after_of k (kind_of w) body m) (Packet (kind_of w) n 12 (length body))
-  message-received a fin over number g m =
+  pub message-received : Awaits k l → 4 ≤ k.stage → l.sends < 2 ^ 32 → Small p → (m : Moment)
+      → receive_of k (message_buffer l w p b) m ≡ gives (after_of k (kind_of w) body m) (Packet (kind_of w) n 12 (length body))
+  message-received a over number g m =
       ap (λ (s : List ℕ). receive_of k s m) whole
       ∙ (received l (kind_of w) body (drop (length packet) b) k a (length-passes k over (length body) known.short) (may-come over) number
-      (omega (arith, known.short)) sent-plain.fits (small-body w p g) m (no-refusal k (kind_of w) body m sent-plain
-      (not_late l k w here known.way known.early fin))
+      (omega (arith, known.short)) sent-plain.fits (small-body w p g) m (no-refusal k (kind_of w) body m sent-plain)
       ∙ ap (λ (x : ℕ). gives (after_of k (kind_of w) body m) (Packet (kind_of w) x 12 (length body))) (sym known.size))

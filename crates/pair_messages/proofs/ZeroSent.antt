@@ -9,16 +9,15 @@ use Rattle.invoke.specs.declared.Actor.{Actor}
 use Rattle.invoke.specs.declared.Timeout as T
 use Rattle.invoke_out.specs.WriteInvoke.{header_bytes, invoke_bytes}
 use Rattle.link_state.specs.declared.Link.{Link}
-use Rattle.link_state.specs.declared.Moment.{Moment}
 use Rattle.message_out.specs.Outgoing.{kind_of, body_of, wrong_way, number_zero, payload_misread}
 use Rattle.message_out.specs.MessageStep.{message_answer, message_step, message_buffer}
 use Rattle.message_out.specs.declared.Outgoing.TheVariants.{Invoke}
 
 -- the answer and the link after it, and the whole buffer, of any link and into any buffer
-pub zero-sent : (l : Link) (n : ℤ) (a : Actor) (m : Bool) (p b : List ℕ) (here : Moment)
-    → (message_step l (Invoke n a (T.TheVariants.Ms 0) m) p here (length b)
-    ≡ message_step l (Invoke n a T.TheVariants.Absent m) p here (length b))
-    × (message_buffer l (Invoke n a (T.TheVariants.Ms 0) m) p here b
-    ≡ message_buffer l (Invoke n a T.TheVariants.Absent m) p here b)
+pub zero-sent : (l : Link) (n : ℤ) (a : Actor) (m : Bool) (p b : List ℕ)
+    → (message_step l (Invoke n a (T.TheVariants.Ms 0) m) p (length b)
+    ≡ message_step l (Invoke n a T.TheVariants.Absent m) p (length b))
+    × (message_buffer l (Invoke n a (T.TheVariants.Ms 0) m) p b
+    ≡ message_buffer l (Invoke n a T.TheVariants.Absent m) p b)
 unfolding message_step message_buffer message_answer kind_of body_of wrong_way number_zero payload_misread invoke_bytes header_bytes
-zero-sent l n a m p b here = (refl, refl)
+zero-sent l n a m p b = (refl, refl)

@@ -1,31 +1,25 @@
 -- Messages between two open links, one after the other, that either may send: each is received before the next is sent.
--- A send call that is refused hands nothing over, and the conversation ends where a link is closed (document 02, A6).
--- Assumes nothing.
-use Rattle.std.specs.Prelude.{◌≡◌, ℕ, ◌≤◌, ◌<◌, ◌^◌, Bool, true, false, not, ◌&&◌, ◌||◌, List, [], ◌∷◌, ◌++◌, length, get_or}
+-- A send call that is refused hands nothing over. Assumes nothing.
+use Rattle.std.specs.Prelude.{◌≡◌, ℕ, ◌≤◌, ◌<◌, ◌^◌, Bool, not, List, [], ◌∷◌, ◌++◌, length, get_or}
 use Rattle.wire.specs.Choice.{pick}
 use Rattle.link_state.specs.declared.Link.{Link}
 use Rattle.link_state.specs.declared.Moment.{Moment}
-use Rattle.packet.specs.declared.Arrival.{Arrival}
-use Rattle.packet.specs.declared.Arrival.TheVariants.{Packet}
 use Rattle.packet_out.specs.declared.Sent.{Sent}
 use Rattle.packet_out.specs.declared.Sent.TheVariants.{Written, Refused}
 use Rattle.link.specs.Receive.{receive_of}
-use Rattle.message_out.specs.Outgoing.{kind_of, body_of}
 use Rattle.message_out.specs.MessageStep.{message_answer, message_step, message_buffer}
 use Rattle.message_out.specs.declared.Outgoing.{Outgoing}
 use Rattle.pair.specs.Awaits.{Awaits}
 use Rattle.pair_messages.specs.Meaning.{meaning_of, carried, Fits}
 use Rattle.pair_messages.specs.Hear.{Heard, heard, hears}
 
--- a message, its payload or text, the sender's buffer; the clock and the count in flight that the sender's caller
--- gives, and those of the receiver's, whatever they are; and whether the first link sends it
+-- a message, its payload or text, the sender's buffer, the receiver's clock; and whether the first link sends it
 pub record Saying : Type 0 where
   pub ours : Bool
   pub message : Outgoing
   pub payload : List ℕ
   pub buffer : List ℕ
-  pub here : Moment
-  pub there : Moment
+  pub moment : Moment
 
 -- the fields of a message have their widths, and its payload is bytes
 pub record Sound (s : Saying) : Type 0 where
@@ -40,23 +34,23 @@ AllSound (s ∷ ss) = Sound s × AllSound ss
 
 -- what the send call answers, and the link after it
 abbrev pub answer_to : Link → Saying → Sent
-answer_to l s = message_answer l s.message s.payload s.here (length s.buffer)
+answer_to l s = message_answer l s.message s.payload (length s.buffer)
 
 abbrev pub sender : Link → Saying → Link
-sender l s = (message_step l s.message s.payload s.here (length s.buffer)).link
+sender l s = (message_step l s.message s.payload (length s.buffer)).link
 
 -- the buffer after it
 abbrev pub buffer_of : Link → Saying → List ℕ
-buffer_of l s = message_buffer l s.message s.payload s.here s.buffer
+buffer_of l s = message_buffer l s.message s.payload s.buffer
 
 -- the peer after it, by the answer
 abbrev pub receiver : Link → Link → Saying → Sent → Link
-receiver l k s (Written n) = (receive_of k (buffer_of l s) s.there).link
+receiver l k s (Written n) = (receive_of k (buffer_of l s) s.moment).link
 receiver l k s (Refused r) = k
 
 -- what the peer hears
 unfoldable pub heard_of : Link → Link → Saying → Sent → List Heard
-heard_of l k s (Written n) = hears k (buffer_of l s) s.there ∷ []
+heard_of l k s (Written n) = hears k (buffer_of l s) s.moment ∷ []
 heard_of l k s (Refused r) = []
 
 -- what was meant
@@ -64,44 +58,17 @@ unfoldable pub meant_of : Link → Link → Saying → Sent → List Heard
 meant_of l k s (Written n) = heard n (meaning_of s.message s.payload) (carried s.message s.payload) ∷ []
 meant_of l k s (Refused r) = []
 
--- what the peer's receive call answers, and the packet that it should be
-unfoldable pub taken_of : Link → Link → Saying → Sent → List Arrival
-taken_of l k s (Written n) = (receive_of k (buffer_of l s) s.there).answer ∷ []
-taken_of l k s (Refused r) = []
-
-unfoldable pub packet_of : Link → Link → Saying → Sent → List Arrival
-packet_of l k s (Written n) = Packet (kind_of s.message) n 12 (length (body_of s.message s.payload)) ∷ []
-packet_of l k s (Refused r) = []
-
 -- ---- all of them
 
--- two links
-pub record Both : Type 0 where
-  pub first : Link
-  pub second : Link
-
--- what f says of each message, from its sender to its receiver, in their order, until one of the two is closed
-unfoldable pub along : {A : Type 0} → (Link → Link → Saying → Sent → List A) → Link → Link → List Saying → List A
+-- what f says of each message, from its sender to its receiver, in their order
+unfoldable pub along : (Link → Link → Saying → Sent → List Heard) → Link → Link → List Saying → List Heard
 along f l k [] = []
 along f l k (s ∷ ss) =
-    pick (l.closed || k.closed)
-    []
-    (pick s.ours
+    pick s.ours
     (f l k s (answer_to l s) ++ along f (sender l s) (receiver l k s (answer_to l s)) ss)
-    (f k l s (answer_to k s) ++ along f (receiver k l s (answer_to k s)) (sender k s) ss))
+    (f k l s (answer_to k s) ++ along f (receiver k l s (answer_to k s)) (sender k s) ss)
 
--- the two links after all of them, or where one of the two is closed
-unfoldable pub end_of : Link → Link → List Saying → Both
-end_of l k [] = record { first = l; second = k }
-end_of l k (s ∷ ss) =
-    pick (l.closed || k.closed)
-    (record { first = l; second = k })
-    (pick s.ours
-    (end_of (sender l s) (receiver l k s (answer_to l s)) ss)
-    (end_of (receiver k l s (answer_to k s)) (sender k s) ss))
-
--- two links whose opening is over, each of which waits for the other's next packet, and has heard the fin that the
--- other has sent, and no other
+-- two links whose opening is over, each of which waits for the other's next packet
 pub record Joined (l k : Link) : Type 0 where
   pub there : Awaits k l
   pub back : Awaits l k
@@ -110,17 +77,3 @@ pub record Joined (l k : Link) : Type 0 where
   pub open_k : 4 ≤ k.stage
   pub number_l : l.sends < 2 ^ 32
   pub number_k : k.sends < 2 ^ 32
-  pub fin_l : k.theirfin ≡ l.ourfin
-  pub fin_k : l.theirfin ≡ k.ourfin
-
--- two links of which the client's, and no other, was closed by a server fin: the server has sent it, and it was heard
-pub record Parted (l k : Link) : Type 0 where
-  pub sides : k.set.server ≡ not l.set.server
-  pub closed_l : l.closed ≡ not l.set.server
-  pub closed_k : k.closed ≡ not k.set.server
-  pub fin : pick l.set.server (l.ourfin && k.theirfin) (l.theirfin && k.ourfin) ≡ true
-
--- joined, or parted if one of the two is closed
-pub record Ended (l k : Link) : Type 0 where
-  pub going : (l.closed || k.closed) ≡ false → Joined l k
-  pub parted : (l.closed || k.closed) ≡ true → Parted l k

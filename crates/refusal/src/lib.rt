@@ -56,13 +56,7 @@ pub const PADDING_NOT_ZERO: u8 = 25;
 
 pub const FOURTH_WORD: u8 = 26;
 
-pub const RECEIVED_AFTER_FIN: u8 = 28;
-
-pub const SENT_AFTER_FIN: u8 = 29;
-
 // The table of requests in flight; 30 also of a link that is set up.
-pub const PUBLISHER_FINISHING: u8 = 27;
-
 pub const OUT_OF_RANGE: u8 = 30;
 
 pub const IN_FLIGHT_ALREADY: u8 = 31;

@@ -1,5 +1,5 @@
--- A send call, whatever is sent (document 01, "Send order: 20, 22, 5, 21, 19, 12, 15, 2, 16", and 29 of document 02,
--- A6, "after 19"): what each packet's own definition says. Assumes nothing.
+-- A send call, whatever is sent (document 01, "Send order: 20, 22, 5, 21, 19, 12, 15, 2, 16"): what each packet's own
+-- definition says. Assumes nothing.
 use Rattle.std.specs.Prelude.{ℕ, List}
 use Rattle.link_state.specs.declared.Link.{Link}
 use Rattle.link_state.specs.declared.Moment.{Moment}
@@ -19,7 +19,7 @@ send_of l Nonce p drawn m room = nonce_step l drawn m room
 send_of l (Handshake sender peer) p drawn m room = handshake_step l sender peer room
 send_of l (Ping id) p drawn m room = ping_step l id room
 send_of l Pong p drawn m room = pong_step l room
-send_of l (Message w) p drawn m room = message_step l w p m room
+send_of l (Message w) p drawn m room = message_step l w p room
 
 -- the buffer b after the call: "Bytes past the packet stay"
 unfoldable pub send_buffer : Link → ToSend → List ℕ → Drawn → Moment → List ℕ → List ℕ
@@ -27,4 +27,4 @@ send_buffer l Nonce p drawn m b = nonce_buffer l drawn m b
 send_buffer l (Handshake sender peer) p drawn m b = handshake_buffer l sender peer b
 send_buffer l (Ping id) p drawn m b = ping_buffer l id b
 send_buffer l Pong p drawn m b = pong_buffer l b
-send_buffer l (Message w) p drawn m b = message_buffer l w p m b
+send_buffer l (Message w) p drawn m b = message_buffer l w p b

@@ -27,6 +27,6 @@ pub fn send_step(
         ToSend::Handshake { sender, peer } => handshake_step(link, buf, sender, peer),
         ToSend::Ping(id) => ping_step(link, buf, id),
         ToSend::Pong => pong_step(link, buf),
-        ToSend::Message(message) => message_step(link, buf, message, payload, moment),
+        ToSend::Message(message) => message_step(link, buf, message, payload),
     }
 }

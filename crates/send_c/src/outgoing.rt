@@ -4,8 +4,8 @@ ghost use Rattle.send_c.specs.ToSend.{actor_of, timeout_of, result_of, message_o
 
 use crate::RelayOutgoing;
 use invoke::{Actor, Timeout};
+use message::{CANCEL, CLIENT_FIN, INVOKE, RESULT, SERVER_FIN};
 use message_out::Outgoing;
-use message_types::{CANCEL, CLIENT_FIN, INVOKE, RESULT, SERVER_FIN};
 use packet::{HANDSHAKE, NONCE, PING, PONG};
 use send::ToSend;
 

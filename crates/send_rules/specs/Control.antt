@@ -1,5 +1,5 @@
 -- A packet that the link itself sends, whatever its body (document 01, "Send order: 20, 22, 5, 21, 19, 12, 15, 2, 16";
--- 19, 12 and 15 are of messages, as 29 is). Assumes nothing.
+-- 19, 12 and 15 are of messages). Assumes nothing.
 use Rattle.std.specs.Prelude.{ℕ, Bool, not, List, [], ◌∷◌, length}
 use Rattle.std.proofs.lemmas.List.Edits.{sets}
 use Rattle.wire.specs.Choice.{first}

@@ -3,7 +3,6 @@ use Rattle.std.specs.Prelude.{ℕ, ◌+◌, ◌%◌, ◌^◌, Bool, true, false,
 use Rattle.wire.specs.Choice.{pick}
 use Rattle.link_state.specs.declared.Link.{Link}
 use Rattle.link_state.specs.Turn.{stage_after}
-use Rattle.link_fins.specs.Fins.{our_fin_sent}
 use Rattle.packet_padding.specs.Padding.{phase_after}
 
 -- "One Ping of ours may be unanswered": a Ping is, until its Pong comes
@@ -32,8 +31,6 @@ sent_of l kind id n =
       awaits = awaits_sent l kind;
       owes = owes_sent l kind;
       ciphered = l.ciphered;
-      ourfin = our_fin_sent l kind;
-      theirfin = l.theirfin;
       keyid = l.keyid;
       sends = (l.sends + 1) % 2 ^ 32;
       gets = l.gets;

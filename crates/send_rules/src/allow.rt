@@ -3,7 +3,6 @@ ghost use Rattle.std.specs.Prelude.{◌≡◌};
 ghost use Rattle.send_rules.specs.Control.{send_refusal, control_answer};
 ghost use Rattle.send_rules.specs.Sent.{awaits_sent, awaited_sent, owes_sent, sent_of};
 
-use link_fins::our_fin_sent;
 use link_state::{Link, may_send, stage_after};
 use packet::{PING, PONG, allowed};
 use packet_out::{Sent, size_or_refusal};
@@ -70,8 +69,6 @@ pub fn sent(link: Link, kind: u32, id: u64, n: usize) -> Link
         awaits: awaits_sent(link, kind),
         owes: owes_sent(link, kind),
         ciphered: link.ciphered,
-        ourfin: our_fin_sent(link, kind),
-        theirfin: link.theirfin,
         keyid: link.keyid,
         sends: std::num::wrapping_add_u32(link.sends, 1),
         gets: link.gets,

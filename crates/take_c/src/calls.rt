@@ -47,7 +47,7 @@ fn cancel_fields(a: CancelAnswer) -> RelayCancelled
 pub extern "C" fn relay_reply_lent(
     masks: &mut [u64; 9],
     numbers: &[i64; 136],
-    places: &[u8; 136],
+    places: &[u8; 128],
     order: &mut [u8; 64],
     publisher: u8,
     number: PublisherNumber,
@@ -69,7 +69,7 @@ pub extern "C" fn relay_reply_lent(
 pub extern "C" fn relay_cancel_lent(
     masks: &mut [u64; 9],
     numbers: &[i64; 136],
-    places: &[u8; 136],
+    places: &[u8; 128],
     order: &mut [u8; 64],
     link: u8,
     number: FrontNumber,

@@ -19,17 +19,15 @@ use Rattle.inflight.specs.declared.CancelAnswer.{CancelAnswer}
 use Rattle.inflight.specs.declared.CancelAnswer.TheVariants as C
 use Rattle.inflight.specs.declared.DropAnswer.{DropAnswer}
 use Rattle.inflight.specs.declared.DropAnswer.TheVariants as D
-use Rattle.inflight.specs.declared.FinishAnswer.{FinishAnswer}
-use Rattle.inflight.specs.declared.FinishAnswer.TheVariants as N
-use Rattle.inflight.specs.Tables.{Table, ask_of, reply_of, cancel_of, gone_of, run_out_of, finish_of}
+use Rattle.inflight.specs.Tables.{Table, ask_of, reply_of, cancel_of, gone_of, run_out_of}
 use Rattle.inflight.specs.declared.Peer.{Peer}
 use Rattle.inflight.specs.declared.Peer.TheVariants as P
 use lib.IntN.{ℤ}
-use Rattle.walk_turn.specs.Lines.{ask_line, reply_line, cancel_line, dropped_lines, finish_line, call_lines, count_of}
+use Rattle.walk_turn.specs.Lines.{ask_line, reply_line, cancel_line, dropped_lines, call_lines, count_of}
 use Rattle.walk_turn.specs.Lines.{ask_word, reply_word, cancel_word, gone_word, out_word}
 use Rattle.walk_turn.specs.Turn.{Turned, lines_of, after_event, turn_of, lent_slice}
 use Rattle.walk_turn.specs.declared.Event.{Event}
-use Rattle.walk_turn.specs.declared.Event.TheVariants.{Ask, Reply, Cancel, Gone, AskBy, RunOut, Finish, End, Cut, Unknown}
+use Rattle.walk_turn.specs.declared.Event.TheVariants.{Ask, Reply, Cancel, Gone, AskBy, RunOut, End, Cut, Unknown}
 use Rattle.walk_turn.proofs.LineLaws.{line-most, pair-most, refused-most, drops-most}
 use Rattle.walk_turn.proofs.TurnLaws.{gone-count, run-out-count}
 use Rattle.walk_events.specs.Events.{event_of, record_size, waits}
@@ -58,11 +56,6 @@ unfolding dropped_lines
 dropped-short word (D.Count n) out w h = rw length-append (omega (arith, line-most word (pos n), drops-most n out))
 dropped-short word (D.Refused k) out w h = omega (arith, refused-most k)
 
-finish-short : (a : FinishAnswer) → length (finish_line a) ≤ 4096
-unfolding finish_line
-finish-short N.Done = omega arith
-finish-short (N.Refused k) = omega (arith, refused-most k)
-
 word-short : (peer : Peer) → length (gone_word peer) ≤ 8
 word-short (P.Front l) = omega arith
 word-short (P.Publisher p) = omega arith
@@ -79,7 +72,6 @@ lines-short t (AskBy l n p time timeout) = ask-short (ask_of t l n p time timeou
 lines-short t (RunOut time) =
     dropped-short out_word (run_out_of t time lent_slice).answer (run_out_of t time lent_slice).slice (omega arith)
     (run-out-count t time lent_slice)
-lines-short t (Finish p) = finish-short (finish_of t p).answer
 lines-short t End = omega (arith, refused-most 35)
 lines-short t Cut = omega (arith, refused-most 35)
 lines-short t Unknown = omega (arith, refused-most 35)
@@ -93,7 +85,6 @@ no_call t (Cancel l n) h = absurd (omega arith)
 no_call t (Gone peer) h = absurd (omega arith)
 no_call t (AskBy l n p time timeout) h = absurd (omega arith)
 no_call t (RunOut time) h = absurd (omega arith)
-no_call t (Finish p) h = absurd (omega arith)
 no_call t End h = refl
 no_call t Cut h = refl
 no_call t Unknown h = refl

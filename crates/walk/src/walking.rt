@@ -21,7 +21,7 @@ fn scratch() -> [u8; 4096]
 fn walk_with(
     masks: &mut [u64; 9],
     numbers: &mut [i64; 136],
-    places: &mut [u8; 136],
+    places: &mut [u8; 128],
     order: &mut [u8; 64],
     times: &mut [u64; 65],
     events: &[u8],
@@ -76,7 +76,7 @@ fn walk_with(
 pub fn walk(
     masks: &mut [u64; 9],
     numbers: &mut [i64; 136],
-    places: &mut [u8; 136],
+    places: &mut [u8; 128],
     order: &mut [u8; 64],
     times: &mut [u64; 65],
     events: &[u8],

@@ -43,7 +43,7 @@ fn print_refusal(no: u8) {
 fn print_walk(
     masks: &mut [u64; 9],
     numbers: &mut [i64; 136],
-    places: &mut [u8; 136],
+    places: &mut [u8; 128],
     order: &mut [u8; 64],
     times: &mut [u64; 65],
     events: &[u8],
@@ -90,13 +90,12 @@ fn run(events: &mut [u8], out: &mut [u8]) -> bool {
     print_run(wire::u64_at(&head, 0));
     let mut masks = [0u64; 9];
     let mut numbers = [0i64; 136];
-    let mut places = [0u8; 136];
+    let mut places = [0u8; 128];
     let mut order = [0u8; 64];
     let mut times = [0u64; 65];
     let answer = inflight::fresh(
         &mut masks,
         &mut numbers,
-        &mut places,
         &mut times,
         PublisherNumber(wire::i64_at(&head, 0)),
     );

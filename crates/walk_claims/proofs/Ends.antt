@@ -27,8 +27,7 @@ body-goes kind es =
     pick_goes (eqb kind 1) _ _ refl
     (pick_goes (eqb kind 2) _ _ refl
     (pick_goes (eqb kind 3) _ _ refl
-    (pick_goes (eqb kind 4) _ _ refl
-    (pick_goes (eqb kind 5) _ _ refl (pick_goes (eqb kind 6) _ _ refl (pick_goes (eqb kind 7) _ _ refl refl))))))
+    (pick_goes (eqb kind 4) _ _ refl (pick_goes (eqb kind 5) _ _ refl (pick_goes (eqb kind 6) _ _ refl refl)))))
 
 event-goes : (x : ℕ) (xs : List ℕ) → waits (event_of (x ∷ xs)) true ≡ false
 event-goes x xs =

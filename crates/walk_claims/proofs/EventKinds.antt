@@ -1,5 +1,4 @@
--- The two kinds name the one call, and that call is what the two were; the kinds with a time, and an ask without one;
--- and the kind of finish.
+-- The two kinds name the one call, and that call is what the two were; the kinds with a time, and an ask without one.
 -- Assumes nothing.
 use mathlib.Core.Path.{◌≡◌, refl, sym, ap, subst}
 use Prim.Native.Nat.{ℕ, ◌≤◌, ◌<◌}
@@ -17,9 +16,9 @@ use Rattle.inflight_claims.proofs.OldAsks.{old-asks}
 use Rattle.walk_turn.specs.Lines.{gone_word, out_word, ask_line, call_lines}
 use Rattle.walk_turn.specs.Turn.{lines_of, after_event, lent_slice}
 use Rattle.walk_turn.specs.declared.Event.{Event}
-use Rattle.walk_turn.specs.declared.Event.TheVariants.{Ask, Gone, AskBy, RunOut, Finish}
-use Rattle.walk_events.specs.Events.{event_of, body_of, body_size, record_size, front_number}
-use Rattle.walk_claims.specs.EventKinds.{Printed, KindsAsBefore, AskPrinted, KindsOfTime, KindOfFinish}
+use Rattle.walk_turn.specs.declared.Event.TheVariants.{Ask, Gone, AskBy, RunOut}
+use Rattle.walk_events.specs.Events.{event_of, body_of, body_size, front_number}
+use Rattle.walk_claims.specs.EventKinds.{Printed, KindsAsBefore, AskPrinted, KindsOfTime}
 
 module _ (n : ℕ) (rest : List ℕ) where
   whole : (kind : ℕ) → 1 < length (kind ∷ n ∷ rest)
@@ -35,10 +34,6 @@ module _ (n : ℕ) (rest : List ℕ) where
   kind-5 : event_of (5 ∷ n ∷ rest) ≡ Gone (P.Publisher n)
   unfolding event_of body_of body_size
   kind-5 = rw (ne_eqb _ 0 (some 5), lt-leb _ 1 (whole 5))
-
-  kind-8 : event_of (8 ∷ n ∷ rest) ≡ Finish n
-  unfolding event_of body_of body_size
-  kind-8 = rw (ne_eqb _ 0 (some 8), lt-leb _ 1 (whole 8))
 
 -- an event that is a gone peer is printed as what its call answers
 printed : (t : Table) (peer : Peer) {e : Event} {r : Dropped} → e ≡ Gone peer → gone_of t peer lent_slice ≡ r
@@ -123,9 +118,3 @@ module _ (t : Table) (es : List ℕ) where
 
 pub kinds-of-time : KindsOfTime
 kinds-of-time = record { one = one-printed; six = six-printed; seven = seven-printed }
-
-pub kind-of-finish : KindOfFinish
-unfolding lines_of after_event call_lines
-kind-of-finish t p rest =
-    let e = kind-8 p rest in
-    record { size = ap record_size e; line = ap (lines_of t) e; after = ap (after_event t) e }

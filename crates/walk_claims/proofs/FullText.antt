@@ -14,8 +14,7 @@ use Rattle.inflight.specs.Tables.{Table}
 use Rattle.walk_turn.specs.Lines.{refused_line}
 use Rattle.walk_turn.specs.Turn.{lines_of, after_event}
 use Rattle.walk_turn.specs.declared.Event.{Event}
-use Rattle.walk_turn.specs.declared.Event.TheVariants.{Ask, Reply, Cancel, Gone, AskBy, RunOut, Finish}
-use Rattle.walk_turn.specs.declared.Event.TheVariants.{End, Cut, Unknown}
+use Rattle.walk_turn.specs.declared.Event.TheVariants.{Ask, Reply, Cancel, Gone, AskBy, RunOut, End, Cut, Unknown}
 use Rattle.walk_events.specs.Events.{event_of, record_size, waits}
 use Rattle.walk.specs.Walk.{Outcome, ends, after, walk_from}
 use Rattle.walk_claims.specs.ProgramText.{call_before, calls_from, fault_before, fault_from, rendered}
@@ -43,7 +42,6 @@ full-is-at t (Cancel l n) cs fault rest h = rw (h, append_assoc)
 full-is-at t (Gone peer) cs fault rest h = rw (h, append_assoc)
 full-is-at t (AskBy l n p time timeout) cs fault rest h = rw (h, append_assoc)
 full-is-at t (RunOut time) cs fault rest h = rw (h, append_assoc)
-full-is-at t (Finish p) cs fault rest h = rw (h, append_assoc)
 full-is-at t End cs fault rest h = refl
 full-is-at t Cut cs fault rest h = append-nil (refused_line 35)
 full-is-at t Unknown cs fault rest h = append-nil (refused_line 35)

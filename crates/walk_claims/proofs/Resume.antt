@@ -12,8 +12,7 @@ use Rattle.wire.specs.Choice.{pick}
 use Rattle.inflight.specs.Tables.{Table}
 use Rattle.walk_turn.specs.Turn.{lines_of, after_event}
 use Rattle.walk_turn.specs.declared.Event.{Event}
-use Rattle.walk_turn.specs.declared.Event.TheVariants.{Ask, Reply, Cancel, Gone, AskBy, RunOut, Finish}
-use Rattle.walk_turn.specs.declared.Event.TheVariants.{End, Cut, Unknown}
+use Rattle.walk_turn.specs.declared.Event.TheVariants.{Ask, Reply, Cancel, Gone, AskBy, RunOut, End, Cut, Unknown}
 use Rattle.walk_events.specs.Events.{event_of, record_size, waits}
 use Rattle.walk.specs.Walk.{Outcome, ends, after, walk_from}
 use Rattle.walk_events.proofs.EventLaws.{record-fits}
@@ -47,7 +46,6 @@ no-wait (Cancel l n) last h = refl
 no-wait (Gone peer) last h = refl
 no-wait (AskBy l n p time timeout) last h = refl
 no-wait (RunOut time) last h = refl
-no-wait (Finish p) last h = refl
 no-wait End last h = h
 no-wait Cut last h = refl
 no-wait Unknown last h = refl

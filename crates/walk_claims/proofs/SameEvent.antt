@@ -12,7 +12,7 @@ use lib.Seq.{take-append-le, drop-append-le}
 use Rattle.wire.specs.Bytes.{le, part}
 use Rattle.wire.specs.Choice.{first}
 use Rattle.inflight.specs.declared.Peer.TheVariants as P
-use Rattle.walk_turn.specs.declared.Event.TheVariants.{Ask, Reply, Cancel, Gone, AskBy, RunOut, Finish, Cut, Unknown}
+use Rattle.walk_turn.specs.declared.Event.TheVariants.{Ask, Reply, Cancel, Gone, AskBy, RunOut, Cut, Unknown}
 use Rattle.walk_events.specs.Events.{body_size, body_of, event_of, front_number, publisher_number, waits}
 
 module _ (es more : List ℕ) where
@@ -31,9 +31,8 @@ module _ (es more : List ℕ) where
   unfolding publisher_number
   same_number h = rw (same-part 2 8 h)
 
-  kinds-same : (a b c d e f g k : Bool)
-      → eqb (first ((a, 10) ∷ (b, 9) ∷ (c, 9) ∷ (d, 1) ∷ (e, 1) ∷ (f, 22) ∷ (g, 8) ∷ (k, 1) ∷ []) 0) 0 ≡ false
-      → first ((a, 10) ∷ (b, 9) ∷ (c, 9) ∷ (d, 1) ∷ (e, 1) ∷ (f, 22) ∷ (g, 8) ∷ (k, 1) ∷ []) 0 < length es
+  kinds-same : (a b c d e f g : Bool) → eqb (first ((a, 10) ∷ (b, 9) ∷ (c, 9) ∷ (d, 1) ∷ (e, 1) ∷ (f, 22) ∷ (g, 8) ∷ []) 0) 0 ≡ false
+      → first ((a, 10) ∷ (b, 9) ∷ (c, 9) ∷ (d, 1) ∷ (e, 1) ∷ (f, 22) ∷ (g, 8) ∷ []) 0 < length es
       → first
       ((a, Ask (get_or (es ++ more) 1 0) (front_number (es ++ more)) (get_or (es ++ more) 10 0))
       ∷ (b, Reply (get_or (es ++ more) 1 0) (publisher_number (es ++ more)))
@@ -41,9 +40,8 @@ module _ (es more : List ℕ) where
       ∷ (d, Gone (P.Front (get_or (es ++ more) 1 0)))
       ∷ (e, Gone (P.Publisher (get_or (es ++ more) 1 0)))
       ∷ (f, AskBy (get_or (es ++ more) 1 0) (front_number (es ++ more)) (get_or (es ++ more) 10 0) (le (part (es ++ more) 11 8)) (le (part (es ++ more) 19 4)))
-      ∷ (g, RunOut (le (part (es ++ more) 1 8)))
       ∷ [])
-      (Finish (get_or (es ++ more) 1 0))
+      (RunOut (le (part (es ++ more) 1 8)))
       ≡ first
       ((a, Ask (get_or es 1 0) (front_number es) (get_or es 10 0))
       ∷ (b, Reply (get_or es 1 0) (publisher_number es))
@@ -51,16 +49,14 @@ module _ (es more : List ℕ) where
       ∷ (d, Gone (P.Front (get_or es 1 0)))
       ∷ (e, Gone (P.Publisher (get_or es 1 0)))
       ∷ (f, AskBy (get_or es 1 0) (front_number es) (get_or es 10 0) (le (part es 11 8)) (le (part es 19 4)))
-      ∷ (g, RunOut (le (part es 1 8)))
       ∷ [])
-      (Finish (get_or es 1 0))
-  kinds-same true b c d e f g k z h =
-      rw (same_byte 1 (omega arith), same-front (omega arith), same_byte 10 (omega arith))
-  kinds-same false true c d e f g k z h = rw (same_byte 1 (omega arith), same_number (omega arith))
-  kinds-same false false true d e f g k z h = rw (same_byte 1 (omega arith), same-front (omega arith))
-  kinds-same false false false true e f g k z h = rw (same_byte 1 (omega arith))
-  kinds-same false false false false true f g k z h = rw (same_byte 1 (omega arith))
-  kinds-same false false false false false true g k z h =
+      (RunOut (le (part es 1 8)))
+  kinds-same true b c d e f g z h = rw (same_byte 1 (omega arith), same-front (omega arith), same_byte 10 (omega arith))
+  kinds-same false true c d e f g z h = rw (same_byte 1 (omega arith), same_number (omega arith))
+  kinds-same false false true d e f g z h = rw (same_byte 1 (omega arith), same-front (omega arith))
+  kinds-same false false false true e f g z h = rw (same_byte 1 (omega arith))
+  kinds-same false false false false true f g z h = rw (same_byte 1 (omega arith))
+  kinds-same false false false false false true g z h =
       rw (
         same_byte 1 (omega arith),
         same-front (omega arith),
@@ -68,15 +64,13 @@ module _ (es more : List ℕ) where
         same-part 11 8 (omega arith),
         same-part 19 4 (omega arith),
       )
-  kinds-same false false false false false false true k z h = rw (same-part 1 8 (omega arith))
-  kinds-same false false false false false false false true z h = rw (same_byte 1 (omega arith))
-  kinds-same false false false false false false false false z h = absurd (true≢false z)
+  kinds-same false false false false false false true z h = rw (same-part 1 8 (omega arith))
+  kinds-same false false false false false false false z h = absurd (true≢false z)
 
   body_same : (kind : ℕ) → eqb (body_size kind) 0 ≡ false → body_size kind < length es → body_of kind (es ++ more) ≡ body_of kind es
   unfolding body_size body_of
   body_same kind z h =
-      kinds-same (eqb kind 1) (eqb kind 2) (eqb kind 3) (eqb kind 4) (eqb kind 5) (eqb kind 6) (eqb kind 7)
-      (eqb kind 8) z h
+      kinds-same (eqb kind 1) (eqb kind 2) (eqb kind 3) (eqb kind 4) (eqb kind 5) (eqb kind 6) (eqb kind 7) z h
 
 -- the event at the front of some bytes, of which there is one at least
 pub event-at : (x : ℕ) (xs : List ℕ) → event_of (x ∷ xs) ≡ first ((eqb (body_size x) 0, Unknown) ∷ (leb (length (x ∷ xs)) (body_size x), Cut) ∷ []) (body_of x (x ∷ xs))

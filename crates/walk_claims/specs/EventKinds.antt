@@ -1,15 +1,15 @@
 -- What the event kinds print. "Event kinds 4 and 5 print as before" (document 02, A4): they name the one call for a
 -- gone peer now; their lines, and the table after them, are still those of closed and lost as they were while they were
 -- two calls. Kind 1 prints as before asks brought a time, and "kind 6 prints as kind 1" (A2): its line is an ask's too.
--- Kind 7 prints `out`, with the answer of a run-out, and kind 8 `fin` alone (A6).
+-- Kind 7 prints `out`, with the answer of a run-out.
 -- Assumes nothing.
 use Rattle.std.specs.Prelude.{◌≡◌, ℕ, ◌≤◌, List, ◌∷◌, length, get_or}
 use Rattle.wire.specs.Bytes.{le, part}
-use Rattle.inflight.specs.Tables.{Table, Dropped, ask_of, run_out_of, finish_of}
+use Rattle.inflight.specs.Tables.{Table, Dropped, ask_of, run_out_of}
 use Rattle.inflight_claims.specs.TwoCalls.{closed_of, lost_of}
 use Rattle.inflight_claims.specs.OldAsks.{old_ask_of}
 use Rattle.inflight.specs.declared.AskAnswer.{AskAnswer}
-use Rattle.walk_turn.specs.Lines.{closed_word, lost_word, out_word, ask_line, dropped_lines, finish_line}
+use Rattle.walk_turn.specs.Lines.{closed_word, lost_word, out_word, ask_line, dropped_lines}
 use Rattle.walk_turn.specs.Turn.{lines_of, after_event, lent_slice}
 use Rattle.walk_turn.specs.declared.Event.{Event}
 use Rattle.walk_events.specs.Events.{event_of, record_size, front_number}
@@ -49,12 +49,3 @@ pub record KindsOfTime : Type 0 where
   -- kind 7: the time
   pub seven : (t : Table) (es : List ℕ) → 8 ≤ length es
       → Printed t (event_of (7 ∷ es)) 9 out_word (run_out_of t (le (part es 0 8)) lent_slice)
-
--- the claim: kind 8 and the publisher, on any contents of the table, whatever bytes come behind
-pub record FinishPrinted (t : Table) (p : ℕ) (rest : List ℕ) : Type 0 where
-  pub size : record_size (event_of (8 ∷ p ∷ rest)) ≡ 2
-  pub line : lines_of t (event_of (8 ∷ p ∷ rest)) ≡ finish_line (finish_of t p).answer
-  pub after : after_event t (event_of (8 ∷ p ∷ rest)) ≡ (finish_of t p).table
-
-abbrev pub KindOfFinish : Type 0
-KindOfFinish = (t : Table) (p : ℕ) (rest : List ℕ) → FinishPrinted t p rest

@@ -6,13 +6,12 @@ use Rattle.std.specs.Prelude.{◌≡◌, ℕ, zero, suc, ◌+◌, ◌≤◌, Boo
 use Rattle.wire.specs.Choice.{pick}
 use Rattle.inflight.specs.Model.{empty}
 use Rattle.inflight.specs.Calls.{Call, Heard, ask, old_ask, reply, cancel, gone, run_out, model_run}
-use Rattle.inflight.specs.Calls as K
 use Rattle.inflight.specs.declared.PublisherNumber.{PublisherNumber}
 use Rattle.inflight.specs.Tables.{Table, Sized, fresh_of}
 use Rattle.walk_turn.specs.Lines.{call_lines, refused_line}
 use Rattle.walk_turn.specs.Turn.{lent_slice}
 use Rattle.walk_turn.specs.declared.Event.{Event}
-use Rattle.walk_turn.specs.declared.Event.TheVariants.{Ask, Reply, Cancel, Gone, AskBy, RunOut, Finish, End, Cut, Unknown}
+use Rattle.walk_turn.specs.declared.Event.TheVariants.{Ask, Reply, Cancel, Gone, AskBy, RunOut, End, Cut, Unknown}
 use Rattle.walk_events.specs.Events.{event_of, record_size}
 use Rattle.walk.specs.Walk.{Outcome, walk_of}
 
@@ -26,7 +25,6 @@ call_before (Cancel l n) cs = cancel l n ∷ cs
 call_before (Gone peer) cs = gone peer lent_slice ∷ cs
 call_before (AskBy l n p time timeout) cs = ask l n p time timeout ∷ cs
 call_before (RunOut time) cs = run_out time lent_slice ∷ cs
-call_before (Finish p) cs = K.finish p ∷ cs
 call_before End cs = []
 call_before Cut cs = []
 call_before Unknown cs = []
@@ -44,7 +42,6 @@ fault_before (Cancel l n) b = b
 fault_before (Gone peer) b = b
 fault_before (AskBy l n p time timeout) b = b
 fault_before (RunOut time) b = b
-fault_before (Finish p) b = b
 fault_before End b = false
 fault_before Cut b = true
 fault_before Unknown b = true

@@ -13,12 +13,12 @@ use Rattle.wire.specs.Choice.{first}
 use Rattle.inflight.specs.declared.FrontNumber.{FrontNumber}
 use Rattle.inflight.specs.declared.PublisherNumber.{PublisherNumber}
 use Rattle.inflight.specs.declared.Peer.TheVariants as P
-use Rattle.walk_turn.specs.declared.Event.TheVariants.{Ask, Reply, Cancel, Gone, AskBy, RunOut, Finish, End, Cut, Unknown}
+use Rattle.walk_turn.specs.declared.Event.TheVariants.{Ask, Reply, Cancel, Gone, AskBy, RunOut, End, Cut, Unknown}
 use Rattle.walk_events.specs.Events.{body_size, body_of, event_of, record_size, front_number, publisher_number}
 
--- the eight kinds, by their tests
-kinds : (a b c d e g h i : Bool) (l p : ℕ) (f : FrontNumber) (n : PublisherNumber) (t u v : ℕ)
-    → eqb (first ((a, 10) ∷ (b, 9) ∷ (c, 9) ∷ (d, 1) ∷ (e, 1) ∷ (g, 22) ∷ (h, 8) ∷ (i, 1) ∷ []) 0) 0 ≡ false
+-- the seven kinds, by their tests
+kinds : (a b c d e g h : Bool) (l p : ℕ) (f : FrontNumber) (n : PublisherNumber) (t u v : ℕ)
+    → eqb (first ((a, 10) ∷ (b, 9) ∷ (c, 9) ∷ (d, 1) ∷ (e, 1) ∷ (g, 22) ∷ (h, 8) ∷ []) 0) 0 ≡ false
     → record_size
     (first
     ((a, Ask l f p)
@@ -27,25 +27,23 @@ kinds : (a b c d e g h i : Bool) (l p : ℕ) (f : FrontNumber) (n : PublisherNum
     ∷ (d, Gone (P.Front l))
     ∷ (e, Gone (P.Publisher l))
     ∷ (g, AskBy l f p t u)
-    ∷ (h, RunOut v)
     ∷ [])
-    (Finish l))
-    ≡ suc (first ((a, 10) ∷ (b, 9) ∷ (c, 9) ∷ (d, 1) ∷ (e, 1) ∷ (g, 22) ∷ (h, 8) ∷ (i, 1) ∷ []) 0)
-kinds true b c d e g h i l p f n t u v q = refl
-kinds false true c d e g h i l p f n t u v q = refl
-kinds false false true d e g h i l p f n t u v q = refl
-kinds false false false true e g h i l p f n t u v q = refl
-kinds false false false false true g h i l p f n t u v q = refl
-kinds false false false false false true h i l p f n t u v q = refl
-kinds false false false false false false true i l p f n t u v q = refl
-kinds false false false false false false false true l p f n t u v q = refl
-kinds false false false false false false false false l p f n t u v q = absurd (true≢false q)
+    (RunOut v))
+    ≡ suc (first ((a, 10) ∷ (b, 9) ∷ (c, 9) ∷ (d, 1) ∷ (e, 1) ∷ (g, 22) ∷ (h, 8) ∷ []) 0)
+kinds true b c d e g h l p f n t u v q = refl
+kinds false true c d e g h l p f n t u v q = refl
+kinds false false true d e g h l p f n t u v q = refl
+kinds false false false true e g h l p f n t u v q = refl
+kinds false false false false true g h l p f n t u v q = refl
+kinds false false false false false true h l p f n t u v q = refl
+kinds false false false false false false true l p f n t u v q = refl
+kinds false false false false false false false l p f n t u v q = absurd (true≢false q)
 
 body-record : (kind : ℕ) (es : List ℕ) → eqb (body_size kind) 0 ≡ false → record_size (body_of kind es) ≡ suc (body_size kind)
 unfolding body_size body_of
 body-record kind es h =
-    kinds (eqb kind 1) (eqb kind 2) (eqb kind 3) (eqb kind 4) (eqb kind 5) (eqb kind 6) (eqb kind 7) (eqb kind 8)
-    (get_or es 1 0) (get_or es 10 0) (front_number es) (publisher_number es) (le (part es 11 8)) (le (part es 19 4)) (le (part es 1 8)) h
+    kinds (eqb kind 1) (eqb kind 2) (eqb kind 3) (eqb kind 4) (eqb kind 5) (eqb kind 6) (eqb kind 7) (get_or es 1 0)
+    (get_or es 10 0) (front_number es) (publisher_number es) (le (part es 11 8)) (le (part es 19 4)) (le (part es 1 8)) h
 
 pub record-fits : (es : List ℕ) → record_size (event_of es) ≤ length es
 unfolding event_of

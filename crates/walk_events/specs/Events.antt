@@ -9,12 +9,11 @@ use Rattle.inflight.specs.declared.FrontNumber.{FrontNumber}
 use Rattle.inflight.specs.declared.PublisherNumber.{PublisherNumber}
 use Rattle.inflight.specs.declared.Peer.TheVariants as P
 use Rattle.walk_turn.specs.declared.Event.{Event}
-use Rattle.walk_turn.specs.declared.Event.TheVariants.{Ask, Reply, Cancel, Gone, AskBy, RunOut, Finish, End, Cut, Unknown}
+use Rattle.walk_turn.specs.declared.Event.TheVariants.{Ask, Reply, Cancel, Gone, AskBy, RunOut, End, Cut, Unknown}
 
 -- "1 ask: link 1, number 8, publisher 1. 2 reply: publisher 1, number 8. 3 cancel: link 1, number 8. 4 closed: link
 -- 1. 5 lost: publisher 1"; "kind 6 is ask with time 8 and timeout 4 added after the publisher .., kind 7 is the run-out
--- call with time 8" (document 02, A2); "event kind 8 with the publisher" (A6): the length of a kind's body, and 0 for
--- an unknown kind
+-- call with time 8" (document 02, A2): the length of a kind's body, and 0 for an unknown kind
 unfoldable pub body_size : ℕ → ℕ
 body_size kind =
     first
@@ -25,7 +24,6 @@ body_size kind =
     ∷ (eqb kind 5, 1)
     ∷ (eqb kind 6, 22)
     ∷ (eqb kind 7, 8)
-    ∷ (eqb kind 8, 1)
     ∷ [])
     0
 
@@ -36,7 +34,7 @@ front_number es = record { 0 = to_z w64 (le (part es 2 8)) }
 unfoldable pub publisher_number : List ℕ → PublisherNumber
 publisher_number es = record { 0 = to_z w64 (le (part es 2 8)) }
 
--- the fields of a whole record of one of the eight kinds; times and timeouts are unsigned, little-endian
+-- the fields of a whole record of one of the seven kinds; times and timeouts are unsigned, little-endian
 unfoldable pub body_of : ℕ → List ℕ → Event
 body_of kind es =
     first
@@ -46,9 +44,8 @@ body_of kind es =
     ∷ (eqb kind 4, Gone (P.Front (get_or es 1 0)))
     ∷ (eqb kind 5, Gone (P.Publisher (get_or es 1 0)))
     ∷ (eqb kind 6, AskBy (get_or es 1 0) (front_number es) (get_or es 10 0) (le (part es 11 8)) (le (part es 19 4)))
-    ∷ (eqb kind 7, RunOut (le (part es 1 8)))
     ∷ [])
-    (Finish (get_or es 1 0))
+    (RunOut (le (part es 1 8)))
 
 -- what stands at the front of some bytes: their end, an unknown kind, a record cut off, or an event
 unfoldable pub event_of : List ℕ → Event
@@ -68,7 +65,6 @@ record_size (Cancel l n) = 10
 record_size (Gone peer) = 2
 record_size (AskBy l n p time timeout) = 23
 record_size (RunOut time) = 9
-record_size (Finish p) = 2
 record_size End = 0
 record_size Cut = 0
 record_size Unknown = 0
@@ -82,7 +78,6 @@ waits (Cancel l n) last = false
 waits (Gone peer) last = false
 waits (AskBy l n p time timeout) last = false
 waits (RunOut time) last = false
-waits (Finish p) last = false
 waits End last = true
 waits Cut last = not last
 waits Unknown last = false

@@ -31,9 +31,6 @@ fn body_size(kind: u8) -> usize
     if kind == 7 {
         return 8;
     }
-    if kind == 8 {
-        return 1;
-    }
     0
 }
 
@@ -58,7 +55,7 @@ fn publisher_number(s: &[u8]) -> PublisherNumber
     PublisherNumber(i64_at(s, 2))
 }
 
-// The event of one of the eight kinds, whose record stands at the front of s.
+// The event of one of the seven kinds, whose record stands at the front of s.
 fn body(kind: u8, s: &[u8]) -> Event
     ensures { result ≡ body_of kind s.now }
 {
@@ -87,10 +84,7 @@ fn body(kind: u8, s: &[u8]) -> Event
             u32_at(s, 19),
         );
     }
-    if kind == 7 {
-        return Event::RunOut(u64_at(s, 1));
-    }
-    Event::Finish(place)
+    Event::RunOut(u64_at(s, 1))
 }
 
 // What stands at the front of s.
@@ -122,7 +116,6 @@ pub fn record_size(e: Event) -> usize
         Event::Gone(_) => 2,
         Event::AskBy(_, _, _, _, _) => 23,
         Event::RunOut(_) => 9,
-        Event::Finish(_) => 2,
         Event::End => 0,
         Event::Cut => 0,
         Event::Unknown => 0,
@@ -140,7 +133,6 @@ pub fn must_wait(e: Event, last: bool) -> bool
         Event::Gone(_) => false,
         Event::AskBy(_, _, _, _, _) => false,
         Event::RunOut(_) => false,
-        Event::Finish(_) => false,
         Event::End => true,
         Event::Cut => !last,
         Event::Unknown => false,

@@ -12,7 +12,7 @@ use walk_progress::{Progress, goes_on, no_more, start};
 pub fn step(
     masks: &mut [u64; 9],
     numbers: &mut [i64; 136],
-    places: &mut [u8; 136],
+    places: &mut [u8; 128],
     order: &mut [u8; 64],
     times: &mut [u64; 65],
     p: Progress,
@@ -58,16 +58,10 @@ pub fn step(
 pub fn run() {
     let mut masks = [0u64; 9];
     let mut numbers = [0i64; 136];
-    let mut places = [0u8; 136];
+    let mut places = [0u8; 128];
     let mut order = [0u8; 64];
     let mut times = [0u64; 65];
-    inflight::fresh(
-        &mut masks,
-        &mut numbers,
-        &mut places,
-        &mut times,
-        PublisherNumber(1),
-    );
+    inflight::fresh(&mut masks, &mut numbers, &mut times, PublisherNumber(1));
     let mut in_space = io::large_buffer();
     let events: &mut [u8] = &mut in_space;
     let mut out_space = io::large_buffer();

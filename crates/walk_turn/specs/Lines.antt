@@ -3,9 +3,6 @@
 use Rattle.std.specs.Prelude.{ℕ, zero, suc, ◌+◌, ◌*◌, ◌/◌, ◌%◌, List, [], ◌∷◌, ◌++◌, ltb, ℤ, pos, negsuc, get_or}
 use Rattle.wire.specs.Choice.{pick}
 use Rattle.inflight.specs.Calls.{Call, Heard, ask, reply, cancel, gone, run_out, asked, replied, cancelled, dropped}
-use Rattle.inflight.specs.Calls.{finish, finished}
-use Rattle.inflight.specs.declared.FinishAnswer.{FinishAnswer}
-use Rattle.inflight.specs.declared.FinishAnswer.TheVariants as N
 use Rattle.inflight.specs.declared.Peer.{Peer}
 use Rattle.inflight.specs.declared.Peer.TheVariants as P
 use Rattle.inflight.specs.declared.AskAnswer.{AskAnswer}
@@ -96,11 +93,6 @@ unfoldable pub dropped_lines : List ℕ → DropAnswer → List ℤ → List ℕ
 dropped_lines word (D.Count n) ends = line word (pos n) ++ drop_lines n ends
 dropped_lines word (D.Refused k) ends = refused_line k
 
--- `fin` alone, without a number: a marked publisher "prints `fin`" (document 02, A6)
-unfoldable pub finish_line : FinishAnswer → List ℕ
-finish_line N.Done = 102 ∷ 105 ∷ 110 ∷ 10 ∷ []
-finish_line (N.Refused k) = refused_line k
-
 -- how many requests an answer says were freed
 abbrev pub count_of : DropAnswer → ℕ
 count_of (D.Count n) = n
@@ -118,7 +110,6 @@ drop_call_word (reply p n) = []
 drop_call_word (cancel l n) = []
 drop_call_word (gone peer out) = gone_word peer
 drop_call_word (run_out time out) = out_word
-drop_call_word (finish p) = []
 
 -- the lines that tell what was heard of a call
 unfoldable pub call_lines : Call → Heard → List ℕ
@@ -126,4 +117,3 @@ call_lines c (asked a) = ask_line a
 call_lines c (replied a) = reply_line a
 call_lines c (cancelled a) = cancel_line a
 call_lines c (dropped a out) = dropped_lines (drop_call_word c) a out
-call_lines c (finished a) = finish_line a

@@ -1,11 +1,11 @@
 -- One event of the relay walk (document 01, "Program: relay walk"), on any contents of the table: its lines, and the
 -- table after it. Assumes nothing.
 use Rattle.std.specs.Prelude.{ℕ, List, ℤ, pos, length, replicate}
-use Rattle.inflight.specs.Calls.{ask, old_ask, reply, cancel, gone, run_out, finish, table_heard, table_after}
+use Rattle.inflight.specs.Calls.{ask, old_ask, reply, cancel, gone, run_out, table_heard, table_after}
 use Rattle.inflight.specs.Tables.{Table}
 use Rattle.walk_turn.specs.Lines.{call_lines, refused_line}
 use Rattle.walk_turn.specs.declared.Event.{Event}
-use Rattle.walk_turn.specs.declared.Event.TheVariants.{Ask, Reply, Cancel, Gone, AskBy, RunOut, Finish}
+use Rattle.walk_turn.specs.declared.Event.TheVariants.{Ask, Reply, Cancel, Gone, AskBy, RunOut}
 use Rattle.walk_turn.specs.declared.Event.TheVariants.{End, Cut, Unknown}
 
 -- the slice that gone and run out are lent: two numbers for each of 64 requests
@@ -22,7 +22,6 @@ lines_of t (Gone peer) = call_lines (gone peer lent_slice) (table_heard t (gone 
 lines_of t (AskBy l n p time timeout) =
     call_lines (ask l n p time timeout) (table_heard t (ask l n p time timeout))
 lines_of t (RunOut time) = call_lines (run_out time lent_slice) (table_heard t (run_out time lent_slice))
-lines_of t (Finish p) = call_lines (finish p) (table_heard t (finish p))
 lines_of t End = refused_line 35
 lines_of t Cut = refused_line 35
 lines_of t Unknown = refused_line 35
@@ -35,7 +34,6 @@ after_event t (Cancel l n) = table_after t (cancel l n)
 after_event t (Gone peer) = table_after t (gone peer lent_slice)
 after_event t (AskBy l n p time timeout) = table_after t (ask l n p time timeout)
 after_event t (RunOut time) = table_after t (run_out time lent_slice)
-after_event t (Finish p) = table_after t (finish p)
 after_event t End = t
 after_event t Cut = t
 after_event t Unknown = t

@@ -24,12 +24,10 @@ pub enum Event {
     AskBy(u8, FrontNumber, u8, u64, u32),
     // Kind 7, with its time.
     RunOut(u64),
-    // Kind 8, with its publisher.
-    Finish(u8),
     // No byte.
     End,
     // A record whose last byte is not there.
     Cut,
-    // A kind byte that is none of the eight.
+    // A kind byte that is none of the seven.
     Unknown,
 }

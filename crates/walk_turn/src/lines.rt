@@ -94,14 +94,6 @@ pub(crate) fn put_refused(out: &mut [u8], no: u8) -> usize
     put_line(out, 0, b"no ", no as i64)
 }
 
-// A line that is a word alone, with its end.
-pub(crate) fn put_word(out: &mut [u8], word: &[u8]) -> usize
-    ensures { (result ≡ length word.now) × (out.new ≡ sets out.old 0 word.now) }
-{
-    copy(out, 0, word);
-    word.len()
-}
-
 fn number_at(ends: &[i64], at: usize) -> i64
     ensures { result ≡ get_or ends.now at (pos 0) }
 {

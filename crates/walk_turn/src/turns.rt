@@ -1,18 +1,16 @@
 // One event: the call that it names, and the lines that tell the answer.
-ghost use Rattle.std.specs.Prelude.{◌≡◌, ℕ, ◌≤◌, List, ℤ, length};
+ghost use Rattle.std.specs.Prelude.{◌≡◌, ℕ, ◌≤◌, List, length};
 ghost use Rattle.std.proofs.lemmas.List.Edits.{sets};
 ghost use Rattle.inflight.specs.Tables.{table_of};
-ghost use Rattle.walk_turn.specs.Lines.{ask_line, reply_line, cancel_line, count_of, dropped_lines, gone_word, finish_line};
+ghost use Rattle.walk_turn.specs.Lines.{ask_line, reply_line, cancel_line, count_of, dropped_lines, gone_word};
 ghost use Rattle.walk_turn.specs.Turn.{Turned, turn_of, lines_of};
 
 use super::Event;
-use super::lines::{put_drops, put_line, put_pair, put_refused, put_word};
+use super::lines::{put_drops, put_line, put_pair, put_refused};
 use inflight::{
-    AskAnswer, CancelAnswer, DropAnswer, FinishAnswer, FrontNumber, Peer, PublisherNumber,
-    ReplyAnswer,
+    AskAnswer, CancelAnswer, DropAnswer, FrontNumber, Peer, PublisherNumber, ReplyAnswer,
 };
 use inflight_ask::ask;
-use inflight_finish::finish;
 use inflight_gone::gone;
 use inflight_run_out::run_out;
 use inflight_take::{cancel, reply};
@@ -81,20 +79,10 @@ fn put_gone(text: &mut [u8], peer: Peer, answer: DropAnswer, ends: &[i64]) -> us
     }
 }
 
-fn put_finish(text: &mut [u8], answer: FinishAnswer) -> usize
-    ensures { (result ≡ length (finish_line answer))
-        × (text.new ≡ sets text.old 0 (finish_line answer)) }
-{
-    match answer {
-        FinishAnswer::Done => put_word(text, b"fin\n"),
-        FinishAnswer::Refused(no) => put_refused(text, no),
-    }
-}
-
 fn ask_turn(
     masks: &mut [u64; 9],
     numbers: &mut [i64; 136],
-    places: &mut [u8; 136],
+    places: &mut [u8; 128],
     order: &mut [u8; 64],
     times: &mut [u64; 65],
     link: u8,
@@ -125,7 +113,7 @@ fn ask_turn(
 fn reply_turn(
     masks: &mut [u64; 9],
     numbers: &[i64; 136],
-    places: &[u8; 136],
+    places: &[u8; 128],
     order: &mut [u8; 64],
     publisher: u8,
     number: PublisherNumber,
@@ -149,7 +137,7 @@ fn reply_turn(
 fn cancel_turn(
     masks: &mut [u64; 9],
     numbers: &[i64; 136],
-    places: &[u8; 136],
+    places: &[u8; 128],
     order: &mut [u8; 64],
     link: u8,
     number: FrontNumber,
@@ -173,20 +161,20 @@ fn cancel_turn(
 fn gone_turn(
     masks: &mut [u64; 9],
     numbers: &[i64; 136],
-    places: &mut [u8; 136],
+    places: &[u8; 128],
     order: &mut [u8; 64],
     peer: Peer,
     text: &mut [u8],
 ) -> usize
     ensures { (ts : List ℕ) → (◌≡◌ {A = Turned}
         (record {
-          table = table_of masks.new numbers.now places.new order.new ts;
+          table = table_of masks.new numbers.now places.now order.new ts;
           size = result;
         })
-        (turn_of (table_of masks.old numbers.now places.old order.old ts)
+        (turn_of (table_of masks.old numbers.now places.now order.old ts)
         (Event.Gone peer)))
         × (text.new ≡ sets text.old 0
-        (lines_of (table_of masks.old numbers.now places.old order.old ts)
+        (lines_of (table_of masks.old numbers.now places.now order.old ts)
         (Event.Gone peer))) }
 {
     let mut ends = [0i64; 128];
@@ -197,7 +185,7 @@ fn gone_turn(
 fn run_out_turn(
     masks: &mut [u64; 9],
     numbers: &[i64; 136],
-    places: &[u8; 136],
+    places: &[u8; 128],
     order: &mut [u8; 64],
     times: &mut [u64; 65],
     time: u64,
@@ -220,25 +208,11 @@ fn run_out_turn(
     put_dropped(text, b"out ", answer, &ends)
 }
 
-fn finish_turn(places: &mut [u8; 136], publisher: u8, text: &mut [u8]) -> usize
-    ensures { (ms : List ℕ) (ns : List ℤ) (os ts : List ℕ) → (◌≡◌ {A = Turned}
-        (record {
-          table = table_of ms ns places.new os ts;
-          size = result;
-        })
-        (turn_of (table_of ms ns places.old os ts) (Event.Finish publisher)))
-        × (text.new ≡ sets text.old 0
-        (lines_of (table_of ms ns places.old os ts) (Event.Finish publisher))) }
-{
-    let answer = finish(places, publisher);
-    put_finish(text, answer)
-}
-
 // The table after an event, and its lines at the front of text: their size is handed back.
 pub fn turn(
     masks: &mut [u64; 9],
     numbers: &mut [i64; 136],
-    places: &mut [u8; 136],
+    places: &mut [u8; 128],
     order: &mut [u8; 64],
     times: &mut [u64; 65],
     e: Event,
@@ -265,7 +239,6 @@ pub fn turn(
             masks, numbers, places, order, times, l, n, p, t, d, text,
         ),
         Event::RunOut(t) => run_out_turn(masks, numbers, places, order, times, t, text),
-        Event::Finish(p) => finish_turn(places, p, text),
         Event::End => put_refused(text, EVENT_UNKNOWN_OR_CUT),
         Event::Cut => put_refused(text, EVENT_UNKNOWN_OR_CUT),
         Event::Unknown => put_refused(text, EVENT_UNKNOWN_OR_CUT),

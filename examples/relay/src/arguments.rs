@@ -26,7 +26,6 @@ OPTION
   --ping-ms N: the interval of the keep-alive, and what a dropped peer has to read the rest, 10000
   --opening-ms N: from a connection's start until its link must be open, 5000
   --request-ms N: from a request's acceptance until it ends with an error, 30000; 0 for no end
-  --stop-ms N: from SIGTERM until the relay ends, if its conversations are not over before, 10000
   --padded-fronts: the links to all front ends are padded
   --fronts-cipher clear|only|either, --fronts-key FILE: the same for the links to all front ends
   --card stand-in or --card x25519: where the Diffie-Hellman points come from; needed if any link may
@@ -40,7 +39,6 @@ struct Line {
     keep_alive: u64,
     opening: u64,
     request: Option<NonZeroU32>,
-    stop: u64,
     fronts: LinkWords,
     card: Option<CardKind>,
 }
@@ -63,7 +61,6 @@ pub fn read(words: impl Iterator<Item = String>) -> Result<(SocketAddr, Options)
         keep_alive: Duration::from_millis(line.keep_alive),
         opening: Duration::from_millis(line.opening),
         request: line.request,
-        stop: Duration::from_millis(line.stop),
         card: line.card,
     };
     has_card(&options)?;
@@ -77,7 +74,6 @@ fn line(mut words: impl Iterator<Item = String>) -> Result<Line, String> {
         keep_alive: 10_000,
         opening: 5000,
         request: NonZeroU32::new(30_000),
-        stop: 10_000,
         fronts: LinkWords::new(settings::FRONT),
         card: None,
     };
@@ -92,7 +88,6 @@ fn line(mut words: impl Iterator<Item = String>) -> Result<Line, String> {
             "--ping-ms" => line.keep_alive = milliseconds(&value()?)?,
             "--opening-ms" => line.opening = milliseconds(&value()?)?,
             "--request-ms" => line.request = timeout(&value()?)?,
-            "--stop-ms" => line.stop = milliseconds(&value()?)?,
             "--padded-fronts" => line.fronts.set("padded", "yes").map_err(usage)?,
             "--fronts-cipher" => line.fronts.set("cipher", &value()?).map_err(usage)?,
             "--fronts-key" => line.fronts.set("key", &value()?).map_err(usage)?,

@@ -14,6 +14,11 @@ pub struct Connection {
     pub peer: NetPid,
     /// The other side's Handshake came.
     pub is_handshaken: bool,
+    /// A fin came: no new request goes over it.
+    pub fin: bool,
+    /// How many requests are in flight with a publisher, so that its last
+    /// answer after a fin is known; the table tells no count.
+    pub in_flight: usize,
     /// A packet came since the last tick.
     pub heard: bool,
 }
@@ -32,17 +37,19 @@ impl Connection {
             own,
             peer,
             is_handshaken: false,
+            fin: false,
+            in_flight: 0,
             heard: false,
         })
     }
 
     pub fn takes_requests(&self) -> bool {
-        self.session.is_open() && !self.is_finishing()
+        self.session.is_open() && !self.fin
     }
 
-    /// A fin of either side has gone over it: no new request does.
-    pub fn is_finishing(&self) -> bool {
-        self.session.has_their_fin() || self.session.is_our_fin_sent()
+    /// After a publisher's fin: its last answer came.
+    pub fn is_done(&self) -> bool {
+        self.fin && self.in_flight == 0
     }
 }
 

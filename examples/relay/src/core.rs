@@ -2,14 +2,12 @@
 //! and what is to be done comes back as actions. Here: which packet is for whom.
 //! `opening` and `keep_alive` have what is a connection's own, `forward` the
 //! way of requests and answers, `unreadable` what becomes of those that cannot
-//! be read, `run_out` of those that are not answered in time, `finish` and `hold`
-//! what happens while a publisher restarts, `stop` how the relay itself ends,
-//! `output` what is handed over at the end of an event.
+//! be read, `run_out` of those that are not answered in time, `output` what is
+//! handed over at the end of an event.
 
 use crate::connection::{side_towards, Connection};
 use crate::counts::Counts;
 use crate::event::{Action, Event, Now, Peer};
-use crate::held::Held;
 use crate::settings::LinkSettings;
 use relay::packet_type::{HANDSHAKE, NONCE, PING, PONG};
 use relay::{
@@ -20,14 +18,8 @@ use std::num::NonZeroU32;
 
 pub struct Core {
     pub(crate) table: Table,
-    pub(crate) fronts: [Option<Connection>; LINKS as usize],
-    pub(crate) publishers: [Option<Connection>; PUBLISHERS as usize],
-    /// Requests for publishers that restart, and by when each of these is to be
-    /// back, in milliseconds.
-    pub(crate) held: Held,
-    pub(crate) back_by: [Option<u64>; PUBLISHERS as usize],
-    /// The relay was told to stop.
-    pub(crate) is_stopping: bool,
+    fronts: [Option<Connection>; LINKS as usize],
+    publishers: [Option<Connection>; PUBLISHERS as usize],
     /// Of the links to the front ends, and of those to the publishers.
     front_settings: LinkSettings,
     publisher_settings: [LinkSettings; PUBLISHERS as usize],
@@ -56,9 +48,6 @@ impl Core {
             table: Table::new(PublisherNumber(1)).expect("1 is a first number"),
             fronts: std::array::from_fn(|_| None),
             publishers: std::array::from_fn(|_| None),
-            held: Held::default(),
-            back_by: [None; PUBLISHERS as usize],
-            is_stopping: false,
             front_settings: front,
             publisher_settings: publishers,
             actions: Vec::new(),
@@ -91,26 +80,14 @@ impl Core {
             Event::TurnedAway => self.counts.turned_away += 1,
             Event::Tick => self.tick(),
             Event::RunOut => self.run_out(),
-            Event::Stop => self.stop(),
-            Event::StopOver => self.stop_over(),
         }
-        self.release();
-        self.finish_publishers();
         self.hand_over_all();
         std::mem::take(&mut self.actions)
     }
 
-    /// For a call on a peer's link. Of a front end's nothing is in flight that
-    /// way round.
-    fn moment(&self, peer: Peer) -> Moment {
-        let in_flight = match peer {
-            Peer::Front(_) => 0,
-            Peer::Publisher(publisher) => self.load(publisher),
-        };
+    fn moment(&self) -> Moment {
         Moment {
             time: self.now.seconds,
-            // At most 64.
-            in_flight: in_flight as u32,
         }
     }
 
@@ -140,8 +117,7 @@ impl Core {
         };
         connection.session.feed(bytes);
         loop {
-            let moment = self.moment(peer);
-            self.hand_over_before_fin(peer, moment.in_flight);
+            let moment = self.moment();
             // Gone if a packet led to its end.
             let Some(connection) = self.connection(peer) else {
                 return;
@@ -178,10 +154,7 @@ impl Core {
             (Peer::Publisher(publisher), Message::Result { number, answer }) => {
                 self.answer(publisher, number, answer);
             }
-            (Peer::Publisher(publisher), Message::ServerFin) => self.finish(publisher),
-            // It asks nothing more, which its link sees to (28), and closes when it
-            // has its answers.
-            (Peer::Front(_), Message::ClientFin) => {}
+            (_, Message::ClientFin | Message::ServerFin) => self.fin(peer),
             // The reader refuses messages that go the other way.
             _ => self.counts.unread += 1,
         }
@@ -189,7 +162,7 @@ impl Core {
 
     /// Sends a packet, or says why it cannot be sent.
     pub(crate) fn send(&mut self, peer: Peer, what: ToSend) -> Result<(), Fault> {
-        let moment = self.moment(peer);
+        let moment = self.moment();
         let connection = self.connection(peer).ok_or(Refusal::LINK_CLOSED)?;
         connection.session.send(what, moment)?;
         self.hand_over_later(peer);
@@ -236,16 +209,8 @@ impl Core {
 
     /// A connection has ended, from whichever side.
     pub(crate) fn gone(&mut self, peer: Peer) {
-        let Some(connection) = self.slot(peer).and_then(Option::take) else {
-            return;
-        };
-        self.end_requests(peer);
-        match peer {
-            Peer::Front(link) => self.forget_held(link),
-            Peer::Publisher(publisher) if connection.session.has_their_fin() => {
-                self.await_restart(publisher);
-            }
-            Peer::Publisher(_) => {}
+        if self.slot(peer).and_then(Option::take).is_some() {
+            self.end_requests(peer);
         }
     }
 }

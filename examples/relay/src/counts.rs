@@ -6,8 +6,8 @@ use std::fmt;
 
 #[derive(Clone, Default)]
 pub struct Counts {
-    /// Requests that the table accepted, or that are held until it does. Each of
-    /// them ends in exactly one of the seven ways below, or is still in flight.
+    /// Requests that the table accepted. Each of them ends in exactly one of
+    /// the seven ways below, or is still in flight.
     pub asked: u64,
     pub answered: u64,
     pub cancelled: u64,
@@ -21,10 +21,6 @@ pub struct Counts {
     pub unreadable: u64,
     /// Its deadline came.
     pub ran_out: u64,
-    /// Those of them that were held, since their publisher restarted.
-    pub held: u64,
-    /// Fins of publishers, which are about to restart.
-    pub fins: u64,
     /// Answers to nothing in flight, which go nowhere (34).
     pub late: u64,
     /// Cancels of nothing in flight (34).
@@ -99,8 +95,6 @@ impl fmt::Display for Counts {
             ("unsent", self.unsent),
             ("unreadable", self.unreadable),
             ("ran_out", self.ran_out),
-            ("held", self.held),
-            ("fins", self.fins),
             ("late", self.late),
             ("idle_cancels", self.idle_cancels),
             ("unread", self.unread),

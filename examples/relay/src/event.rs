@@ -40,10 +40,6 @@ pub enum Event<'a> {
     Tick,
     /// It is time to look for requests whose deadline has come.
     RunOut,
-    /// The relay is to stop, without an error if it can be.
-    Stop,
-    /// The time for that is over.
-    StopOver,
 }
 
 #[derive(Debug, PartialEq, Eq)]

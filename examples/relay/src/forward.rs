@@ -14,13 +14,13 @@ fn route(actor: Option<i64>) -> u8 {
 }
 
 impl Core {
-    /// A request of a front end. For a publisher that restarts it is held.
+    /// A request of a front end. After its fin there may be none.
     pub(crate) fn invoke(&mut self, link: u8, invoke: Invoke) {
+        if self.has_finished(link) {
+            return self.close(Peer::Front(link));
+        }
         let publisher = route(invoke.actor);
         let front = FrontNumber(invoke.number);
-        if self.held.has(link, front) {
-            return self.repeated(link);
-        }
         let asked = self
             .table
             .ask_by(link, front, publisher, self.now.ms, self.timeout);
@@ -30,28 +30,26 @@ impl Core {
                 self.pass_on(link, publisher, number, invoke);
             }
             Err(Refusal::IN_FLIGHT_ALREADY) => self.repeated(link),
-            Err(Refusal::PUBLISHER_FINISHING) => self.hold(link, publisher, invoke),
             Err(refusal) => self.refuse(link, front, refusal),
         }
     }
 
-    /// A second request came under a number in flight, or held. An error under
-    /// that number would be taken for the first one's answer, and an answer might be
+    /// A second request came under a number in flight. An error under that
+    /// number would be taken for the first one's answer, and an answer might be
     /// taken for either's, so the link ends and nothing goes out under it.
     pub(crate) fn repeated(&mut self, link: u8) {
         self.counts.repeated += 1;
         self.close(Peer::Front(link));
     }
 
+    pub(crate) fn has_finished(&mut self, link: u8) -> bool {
+        let front = self.connection(Peer::Front(link));
+        front.is_some_and(|front| front.fin)
+    }
+
     /// An accepted request goes out under the publisher's number. If there is
     /// no way to the publisher, it ends here.
-    pub(crate) fn pass_on(
-        &mut self,
-        link: u8,
-        publisher: u8,
-        number: PublisherNumber,
-        invoke: Invoke,
-    ) {
+    fn pass_on(&mut self, link: u8, publisher: u8, number: PublisherNumber, invoke: Invoke) {
         let front = FrontNumber(invoke.number);
         let request = Message::Invoke(Invoke {
             number: number.0,
@@ -66,15 +64,16 @@ impl Core {
     }
 
     fn request(&mut self, publisher: u8, request: Message) -> Result<(), Refusal> {
-        match self.takes_requests(publisher) {
-            true => self.send_message(Peer::Publisher(publisher), request),
-            false => Err(Refusal::LINK_CLOSED),
+        let peer = Peer::Publisher(publisher);
+        match self.connection(peer) {
+            Some(connection) if connection.takes_requests() => {}
+            _ => return Err(Refusal::LINK_CLOSED),
         }
-    }
-
-    pub(crate) fn takes_requests(&mut self, publisher: u8) -> bool {
-        let connection = self.connection(Peer::Publisher(publisher));
-        connection.is_some_and(|connection| connection.takes_requests())
+        self.send_message(peer, request)?;
+        if let Some(connection) = self.connection(peer) {
+            connection.in_flight += 1;
+        }
+        Ok(())
     }
 
     /// A publisher's answer goes back under the front number, if its request
@@ -88,7 +87,7 @@ impl Core {
         if let Err(refusal) = self.result(link, front, answer) {
             self.refuse(link, front, refusal);
         }
-        self.hang_up_if_done(publisher);
+        self.ended(publisher);
     }
 
     /// A front end's cancel goes on under the publisher's number.
@@ -98,7 +97,6 @@ impl Core {
                 self.counts.cancelled += 1;
                 self.cancel_at(publisher, number);
             }
-            Err(_) if self.held.remove(link, FrontNumber(number)) => self.counts.cancelled += 1,
             Err(_) => self.counts.idle_cancels += 1,
         }
     }
@@ -126,10 +124,38 @@ impl Core {
         }
     }
 
+    /// From a publisher: no new request goes to it, as our fin tells it, and
+    /// its connection ends with its last answer. From a front end: it sends
+    /// no more requests, and closes when it has its answers.
+    pub(crate) fn fin(&mut self, peer: Peer) {
+        if let Some(connection) = self.connection(peer) {
+            connection.fin = true;
+        }
+        if let Peer::Publisher(publisher) = peer {
+            self.send_or_close(peer, ToSend::Message(Message::ClientFin));
+            self.close_if_done(publisher);
+        }
+    }
+
     pub(crate) fn cancel_at(&mut self, publisher: u8, number: PublisherNumber) {
         let cancel = Message::Cancel { number: number.0 };
         self.send_or_close(Peer::Publisher(publisher), ToSend::Message(cancel));
-        self.hang_up_if_done(publisher);
+        self.ended(publisher);
+    }
+
+    /// A request at a publisher has ended.
+    pub(crate) fn ended(&mut self, publisher: u8) {
+        if let Some(connection) = self.connection(Peer::Publisher(publisher)) {
+            connection.in_flight = connection.in_flight.saturating_sub(1);
+        }
+        self.close_if_done(publisher);
+    }
+
+    fn close_if_done(&mut self, publisher: u8) {
+        let peer = Peer::Publisher(publisher);
+        if self.connection(peer).is_some_and(|c| c.is_done()) {
+            self.close(peer);
+        }
     }
 
     fn result(&mut self, link: u8, front: FrontNumber, answer: Answer) -> Result<(), Refusal> {

@@ -2,8 +2,8 @@
 //! publishers. The options `--retry-ms N`, `--ping-ms N`, `--opening-ms N` and
 //! `--request-ms N` are the times between two attempts to reach a publisher, of
 //! the keep-alive, from a connection's start until its link must be open, and
-//! from a request's acceptance until it ends with an error (0: never), and
-//! `--stop-ms N` what it has at its end; with `--padded-fronts` the links to all front ends are padded. A publisher is its address, or for
+//! from a request's acceptance until it ends with an error (0: never); with
+//! `--padded-fronts` the links to all front ends are padded. A publisher is its address, or for
 //! instance `10.0.0.7:2001,lowest=2,cipher=only,key=/etc/relay/key`: the lowest
 //! version that its Nonce may have, whether the link to it is padded, and whether
 //! it goes through the cipher, with the file of its key. `--fronts-cipher` and
@@ -11,8 +11,7 @@
 //! ciphered links come from; without one no link may cipher. It prints the address
 //! on which it listens, for each line on standard input the counts (`fault_N`:
 //! connections that refusal N ended), and on standard error what an operator has to
-//! know of keys that do not fit. At SIGTERM it tells its front ends, and ends when
-//! they have their answers and have hung up.
+//! know of keys that do not fit.
 
 use relay_example::arguments;
 use relay_example::network::serve;

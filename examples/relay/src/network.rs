@@ -9,7 +9,6 @@ mod connection;
 mod printer;
 mod serve;
 mod server;
-mod stop;
 mod stream;
 
 pub use serve::{serve, Options, Publisher};
@@ -29,6 +28,4 @@ enum Input {
     /// Its writer has ended, and holds nothing any more.
     Written(Peer, u64),
     Report,
-    /// The relay is to stop.
-    Stop,
 }

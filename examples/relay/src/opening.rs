@@ -11,7 +11,7 @@ impl Core {
     pub(crate) fn connected(&mut self, peer: Peer, opening: Opening) {
         self.gone(peer);
         let random = opening.random;
-        let settings = self.settings(peer).filter(|_| self.takes(peer));
+        let settings = self.settings(peer);
         let connection = settings.and_then(|settings| Connection::new(settings, opening).ok());
         match (connection, self.slot(peer)) {
             (Some(connection), Some(slot)) => *slot = Some(connection),
@@ -41,14 +41,7 @@ impl Core {
         match (side_towards(peer), kind) {
             (Side::Server, NONCE) => self.send_or_close(peer, nonce),
             (Side::Server, _) | (Side::Client, NONCE) => self.send_or_close(peer, handshake),
-            (Side::Client, _) => self.opened(peer),
-        }
-    }
-
-    /// A publisher that restarted may be asked again.
-    fn opened(&mut self, peer: Peer) {
-        if let Peer::Publisher(publisher) = peer {
-            self.end_wait(publisher);
+            (Side::Client, _) => {}
         }
     }
 

@@ -21,15 +21,6 @@ impl Core {
         }
     }
 
-    /// With nothing in flight a publisher's fin closes its link, which cannot be
-    /// flushed then: what was sent before goes before the next packet is looked at.
-    pub(crate) fn hand_over_before_fin(&mut self, peer: Peer, in_flight: u32) {
-        let is_publisher = matches!(peer, Peer::Publisher(_));
-        if is_publisher && in_flight == 0 && self.unwritten.contains(&peer) {
-            self.hand_over(peer);
-        }
-    }
-
     /// A link that a fault of its peer has closed cannot be flushed: if it is
     /// padded, it ends within a block where the peer was sent something in the
     /// same event, and if it is ciphered, that does not go out.

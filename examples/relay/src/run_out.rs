@@ -5,8 +5,8 @@ use relay::{FrontNumber, ALL_ENDS};
 
 /// The error that ends such a request. Its code is no refusal's, so that a front
 /// end can tell it from a publisher that was lost (20).
-pub(crate) const CODE: u8 = 100;
-pub(crate) const TEXT: &str = "the publisher has not answered in time (100)";
+const CODE: u8 = 100;
+const TEXT: &str = "the publisher has not answered in time (100)";
 
 impl Core {
     /// Each request whose deadline has come ends with an error, and is cancelled
@@ -18,7 +18,6 @@ impl Core {
     /// leads to may end others: a connection that cannot be written ends, with all
     /// its requests, and for these the cancel finds nothing.
     pub(crate) fn run_out(&mut self) {
-        self.run_out_held();
         let now = self.now.ms;
         // An empty slice is too short for any request, so that the table is copied
         // only if one is due.

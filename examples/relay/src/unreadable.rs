@@ -4,7 +4,7 @@
 
 use crate::core::Core;
 use crate::event::Peer;
-use relay::packet_type::{INVOKE, OLD_ERROR, RESULT, SERVER_FIN};
+use relay::packet_type::{INVOKE, OLD_ERROR, RESULT};
 use relay::{FrontNumber, PublisherNumber, Refusal};
 
 /// The query number at the front of a refused invoke, result or old error.
@@ -24,17 +24,17 @@ impl Core {
                     self.unreadable_answer(publisher, PublisherNumber(number), refusal);
                 }
             }
-            // It has a body, and is one all the same: its link knows it by its type.
-            (Peer::Publisher(publisher), SERVER_FIN) => self.finish(publisher),
-            // Nobody waits for what a cancel, a front end's fin or no message at all
-            // says.
+            // Nobody waits for what a cancel, a fin or no message at all says.
             _ => {}
         }
     }
 
-    /// It is a request all the same: under a number in flight, or held, it ends
-    /// the link.
+    /// It is a request all the same: after a fin, or under a number in flight,
+    /// it ends the link.
     fn unreadable_invoke(&mut self, link: u8, number: Option<i64>, refusal: Refusal) {
+        if self.has_finished(link) {
+            return self.close(Peer::Front(link));
+        }
         let Some(front) = number.map(FrontNumber) else {
             return;
         };
@@ -44,7 +44,6 @@ impl Core {
                 self.cancel_at(publisher, number);
                 self.repeated(link);
             }
-            Err(_) if self.held.has(link, front) => self.repeated(link),
             Err(_) => self.refuse(link, front, refusal),
         }
     }
@@ -57,6 +56,6 @@ impl Core {
         };
         self.counts.unreadable += 1;
         self.refuse(link, front, refusal);
-        self.hang_up_if_done(publisher);
+        self.ended(publisher);
     }
 }

@@ -9,7 +9,6 @@ use crate::nonces;
 use crate::pairs::SetUp;
 use crate::states::{self, our_settings};
 use reference::link::{packet, Cipher, Link, Outgoing, Received, State};
-use reference::message::values::{CLIENT_FIN, SERVER_FIN};
 use reference::message::{Message, Outcome, Side, Span};
 use reference::refusal::Refusal;
 use relay::raw;
@@ -20,9 +19,6 @@ pub struct End {
     pub side: Side,
     pub ours: relay::Link,
     pub second: Link,
-    /// What its driver says with each send and receive: drawn anew by whoever
-    /// calls.
-    pub in_flight: u32,
     /// What our link keeps of its set-up, whatever it is called with.
     set: raw::Settings,
     key_id: [u8; 4],
@@ -69,7 +65,6 @@ impl End {
         ours.raw().set.only |= settings.cipher == Cipher::ClearOnly && set_up.only;
         End {
             side: settings.side,
-            in_flight: 1,
             set: ours.raw().set,
             ours,
             second: second.expect("a link of the second program"),
@@ -85,24 +80,6 @@ impl End {
             ..states::second(self.second.state())
         };
         same("a link's state", call, ours, (second, self.set))
-    }
-
-    pub fn moment(&self, time: u32) -> Moment {
-        let in_flight = self.in_flight;
-        Moment { time, in_flight }
-    }
-
-    /// Of a fin that was taken, and is meant for this side.
-    fn fin_word(&self, received: Result<Received, u8>) -> Option<&'static str> {
-        let Ok(Received::Packet { packet_type, .. }) = received else {
-            return None;
-        };
-        match (packet_type, self.side) {
-            (SERVER_FIN, Side::Client) if self.second.is_closed() => Some("closes the client"),
-            (SERVER_FIN, Side::Client) => Some("by a client"),
-            (CLIENT_FIN, Side::Server) => Some("by a server"),
-            _ => None,
-        }
     }
 
     /// By its settings or because the cipher was chosen.
@@ -127,50 +104,39 @@ impl End {
         time: u32,
         counts: &mut Counts,
     ) -> Result<Taken, Difference> {
-        let (side, in_flight) = (self.side, self.in_flight);
-        let call = || {
-            let said = format!("time {time}, {in_flight} in flight");
-            format!("receive at {side:?}, {said}: {bytes:02x?}")
-        };
-        let ours = received(bytes, time, self.ours.receive(bytes, self.moment(time)));
-        let second = self.second.receive(bytes, time, in_flight);
+        let side = self.side;
+        let call = || format!("receive at {side:?}, time {time}: {bytes:02x?}");
+        let ours = received(bytes, time, self.ours.receive(bytes, Moment { time }));
+        let second = self.second.receive(bytes, time);
         let second = second.map_err(|refusal| refusal.number());
         same("a receive", call, ours, second)?;
         self.same_state(call)?;
         counts.add("receive", word(second));
-        if let Some(word) = self.fin_word(second) {
-            counts.add("fin received", Ok(word));
-        }
-        match second {
-            Ok(Received::Wait(_)) => Ok(Taken::Wait),
+        Ok(match second {
+            Ok(Received::Wait(_)) => Taken::Wait,
             Ok(Received::Packet {
                 packet_type,
                 consumed,
                 body,
                 ..
             }) => {
-                self.compare_body(packet_type, body.of(bytes), counts)?;
-                Ok(Taken::Packet(Packet {
+                match packet_type {
+                    packet::NONCE => {
+                        let ciphered = self.second.state().ciphered;
+                        counts.add("choice", Ok(if ciphered { "cipher" } else { "clear" }));
+                        nonces::compare(body.of(bytes), counts)?
+                    }
+                    packet::HANDSHAKE => netpids::compare(body.of(bytes))?,
+                    _ => {}
+                }
+                Taken::Packet(Packet {
                     packet_type,
                     consumed,
                     body,
-                }))
+                })
             }
-            Err(_) => Ok(Taken::Refused),
-        }
-    }
-
-    /// What both programs read of a packet of the opening.
-    fn compare_body(&self, packet_type: u32, body: &[u8], counts: &mut Counts) -> Compared {
-        match packet_type {
-            packet::NONCE => {
-                let ciphered = self.second.state().ciphered;
-                counts.add("choice", Ok(if ciphered { "cipher" } else { "clear" }));
-                nonces::compare(body, counts)
-            }
-            packet::HANDSHAKE => netpids::compare(body),
-            _ => Ok(()),
-        }
+            Err(_) => Taken::Refused,
+        })
     }
 
     /// Both send into a buffer of `room` bytes that are `filler`; hands back
@@ -183,16 +149,13 @@ impl End {
         filler: u8,
         counts: &mut Counts,
     ) -> Result<Option<Vec<u8>>, Difference> {
-        let (side, in_flight) = (self.side, self.in_flight);
-        let call = || {
-            let said = format!("room {room}, {in_flight} in flight");
-            format!("send at {side:?}, {said}: {}", shown(what))
-        };
+        let side = self.side;
+        let call = || format!("send at {side:?}, room {room}: {}", shown(what));
         let mut our_buffer = vec![filler; room];
         let mut buffer = our_buffer.clone();
-        let moment = self.moment(time);
+        let moment = Moment { time };
         let ours = self.ours.send(&mut our_buffer, to_send(what), moment);
-        let second = self.second.send(what, &mut buffer, in_flight);
+        let second = self.second.send(what, &mut buffer);
         let second = second.map_err(|refusal| refusal.number());
         same("a send", call, ours.map_err(|r| r.number()), second)?;
         same("a sent buffer", call, &our_buffer, &buffer)?;
@@ -259,7 +222,7 @@ fn received(bytes: &[u8], time: u32, arrival: Arrival) -> Result<Received, u8> {
                 len: body.len(),
             },
             clock: (kind == packet::NONCE)
-                .then(|| clock_difference(body, Moment { time, in_flight: 0 }))
+                .then(|| clock_difference(body, Moment { time }))
                 .flatten(),
         }),
     }

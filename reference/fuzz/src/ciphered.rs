@@ -132,8 +132,6 @@ impl Driver {
         let open = self.end.second.state().stage == 4;
         for _ in 0..g.below(if open { 3 } else { 1 }) {
             let sent = send_something(g, &mut self.end, TIME, counts)?;
-            // So that no fin closes what is to be heard to its end.
-            self.end.in_flight = self.end.in_flight.max(1);
             bytes.extend(self.noted(sent));
         }
         let words = self.end.flush(BLOCK, 0, counts)?;

@@ -25,8 +25,7 @@ pub fn case(g: &mut Generator, counts: &mut Counts) -> Compared {
         random,
     ]);
     let time = nonce.time.wrapping_add(far);
-    let in_flight = g.draw() as u32;
-    let ours = clock_difference(&body, Moment { time, in_flight });
+    let ours = clock_difference(&body, Moment { time });
     let second = nonce.clock(time).ok();
     counts.add("clock", Ok(if second.is_some() { "near" } else { "far" }));
     let call = || format!("time {time}, body {body:02x?}");

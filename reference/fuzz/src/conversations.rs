@@ -9,7 +9,6 @@ use crate::flushes;
 use crate::packets;
 use crate::padding;
 use crate::pairs;
-use crate::sends::after_fins;
 use reference::generator::Generator;
 use reference::link::{packet, Outgoing};
 
@@ -115,7 +114,6 @@ impl Pair {
         } else {
             padding::cut(g, stream.len())
         };
-        self.ends[i].in_flight = draw::in_flight(g);
         let used = receive_and_read(&mut self.ends[i], &stream[..cut], self.times[i], counts)?;
         self.streams[i].drain(..used);
         Ok(())
@@ -138,14 +136,13 @@ fn receive_and_read(
     }
 }
 
-/// Mostly what is due, into a buffer that mostly has room, with any count in flight.
+/// Mostly what is due, into a buffer that mostly has room.
 pub fn send_something(
     g: &mut Generator,
     end: &mut End,
     time: u32,
     counts: &mut Counts,
 ) -> Result<Option<Vec<u8>>, Difference> {
-    end.in_flight = draw::in_flight(g);
     let sender = if one_in(g, 10) {
         draw::other(end.side)
     } else {
@@ -168,9 +165,7 @@ pub fn send_something(
 
 /// On either side of what is needed, or any.
 fn narrow_room(g: &mut Generator, end: &End, what: &Outgoing) -> usize {
-    let mut second = end.second.clone();
-    let sent = second.send(what, &mut [0; 1000], end.in_flight);
-    let needed = sent.unwrap_or(16);
+    let needed = end.second.clone().send(what, &mut [0; 1000]).unwrap_or(16);
     let any = g.below(100) as usize;
     let near = draw::near(g, needed);
     g.pick(&[near, near, needed, any, 0])
@@ -180,10 +175,7 @@ fn narrow_room(g: &mut Generator, end: &End, what: &Outgoing) -> usize {
 fn against_a_stranger(g: &mut Generator, counts: &mut Counts) -> Compared {
     let set_ups = pairs::meeting(g);
     let stage = g.pick(&[0, 0, 0, 1, 2, 3, 4, 4, 4, 4]);
-    let mut ends = pairs::opened(set_ups, stage, counts)?;
-    if stage == 4 && one_in(g, 3) {
-        after_fins(g, &mut ends, counts)?;
-    }
+    let ends = pairs::opened(set_ups, stage, counts)?;
     let mut end = ends[g.below(2) as usize].clone();
     let time = base_time(g);
     let mut left = 5 + g.below(40);
@@ -198,7 +190,6 @@ fn against_a_stranger(g: &mut Generator, counts: &mut Counts) -> Compared {
             }
             _ => {
                 let bytes = from_a_stranger(g, &end, time);
-                end.in_flight = draw::in_flight(g);
                 receive_and_read(&mut end, &bytes, time, counts)?;
             }
         }

@@ -13,7 +13,7 @@ enum Answer {
 pub struct Counts(BTreeMap<(&'static str, Answer), u64>);
 
 /// The refusals that each call has; those of a link are in their order.
-const REFUSALS: [(&str, &[u8]); 21] = [
+const REFUSALS: [(&str, &[u8]); 19] = [
     ("read", &[19, 11, 12, 13, 14, 17, 18]),
     ("field of 0", &[19, 11, 12, 13, 14]),
     ("set-up", &[36, 30]),
@@ -24,22 +24,18 @@ const REFUSALS: [(&str, &[u8]); 21] = [
     ("decipher", &[37]),
     (
         "receive",
-        &[
-            20, 22, 26, 1, 3, 2, 4, 5, 6, 25, 28, 7, 8, 24, 9, 10, 17, 21,
-        ],
+        &[20, 22, 26, 1, 3, 2, 4, 5, 6, 25, 7, 8, 24, 9, 10, 17, 21],
     ),
-    ("send", &[20, 22, 5, 21, 19, 29, 12, 15, 2, 16]),
+    ("send", &[20, 22, 5, 21, 19, 12, 15, 2, 16]),
     ("flush", &[20, 16]),
     ("fresh", &[30]),
-    ("ask", &[30, 12, 31, 27, 32, 33]),
-    ("ask by", &[30, 12, 31, 27, 32, 33]),
+    ("ask", &[30, 12, 31, 32, 33]),
+    ("ask by", &[30, 12, 31, 32, 33]),
     ("reply", &[30, 12, 34]),
     ("cancel", &[30, 12, 34]),
     ("gone front end", &[30, 16]),
     ("gone publisher", &[30, 16]),
     ("run out", &[30, 16]),
-    ("finish", &[30]),
-    ("load", &[30]),
 ];
 
 impl Counts {

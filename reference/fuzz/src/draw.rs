@@ -77,31 +77,12 @@ pub fn text(g: &mut Generator) -> Vec<u8> {
     g.bytes(length as usize)
 }
 
-/// What a driver counts: nothing, something, or a number that no table has.
-pub fn in_flight(g: &mut Generator) -> u32 {
-    let random = g.draw() as u32;
-    g.pick(&[
-        0,
-        0,
-        0,
-        1,
-        1,
-        2,
-        16,
-        256,
-        1 << 16,
-        1 << 31,
-        u32::MAX,
-        random,
-    ])
-}
-
-/// A message whose payload or text is drawn too; fins are drawn often.
+/// A message whose payload or text is drawn too.
 pub fn message(g: &mut Generator, sender: Side) -> Message<Vec<u8>> {
     let number = mostly_valid_number(g);
     match (sender, g.below(8)) {
         (Side::Client, 0) => Message::Cancel(number),
-        (Side::Client, 1..3) => Message::ClientFin,
+        (Side::Client, 1) => Message::ClientFin,
         (Side::Client, _) => Message::Invoke(Invoke {
             number,
             actor: coin(g).then(|| query_number(g)),
@@ -109,8 +90,8 @@ pub fn message(g: &mut Generator, sender: Side) -> Message<Vec<u8>> {
             tl2: one_in(g, 3),
             payload: payload(g),
         }),
-        (Side::Server, 0..2) => Message::ServerFin,
-        (Side::Server, 2..4) => Message::Result(number, Outcome::Error(g.draw() as i32, text(g))),
+        (Side::Server, 0) => Message::ServerFin,
+        (Side::Server, 1..4) => Message::Result(number, Outcome::Error(g.draw() as i32, text(g))),
         (Side::Server, _) => Message::Result(number, Outcome::Payload(payload(g))),
     }
 }

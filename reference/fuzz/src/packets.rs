@@ -8,7 +8,7 @@ use reference::checksum::{CRC32, CRC32C};
 use reference::generator::Generator;
 use reference::link::packet::{self, HANDSHAKE, NONCE, PING, PONG};
 use reference::link::{handshake_body, nonce_body, Cipher, State};
-use reference::message::{self, values as v};
+use reference::message;
 
 /// On either side of each line; 4 is a word's value.
 const LENGTHS: [u32; 10] = [
@@ -57,9 +57,6 @@ fn alone(g: &mut Generator, to: &End, time: u32) -> Vec<u8> {
 }
 
 fn with_message(g: &mut Generator, to: &End) -> Vec<u8> {
-    if to.second.state().fin_received && draw::coin(g) {
-        return after_fin(g, to);
-    }
     let sender = if draw::one_in(g, 8) {
         to.side
     } else {
@@ -72,18 +69,6 @@ fn with_message(g: &mut Generator, to: &End) -> Vec<u8> {
         draw::mutate(g, &mut body);
     }
     to.expected_packet(message.packet_type(), &body)
-}
-
-/// What may no longer come, or might be taken for it, whatever its body.
-fn after_fin(g: &mut Generator, to: &End) -> Vec<u8> {
-    let near = v::INVOKE ^ 1 << g.below(32);
-    let packet_type = g.pick(&[v::INVOKE, v::CLIENT_FIN, v::SERVER_FIN, v::CANCEL, near]);
-    let length = g.pick(&[0, 0, 1, 4, 8, 20]);
-    let mut packet = to.expected_packet(packet_type, &g.bytes(length));
-    if draw::one_in(g, 8) {
-        spoil(g, to, &mut packet);
-    }
-    packet
 }
 
 /// Versions, encryptions, clocks and lengths on either side of each line; the

@@ -69,9 +69,9 @@ impl Driver {
         self.link.state()
     }
 
-    pub fn send(&mut self, what: &Outgoing, in_flight: u32) -> Result<(), u8> {
+    pub fn send(&mut self, what: &Outgoing) -> Result<(), u8> {
         let mut bytes = vec![0; ROOM];
-        let sent = self.link.send(what, &mut bytes, in_flight);
+        let sent = self.link.send(what, &mut bytes);
         bytes.truncate(sent.map_err(|refusal| refusal.number())?);
         if let Outgoing::Nonce(..) = what {
             self.nonces[0] = Some(bytes[12..bytes.len() - 4].to_vec());
@@ -104,8 +104,8 @@ impl Driver {
         }
     }
 
-    pub fn next(&mut self, time: u32, in_flight: u32) -> Result<Option<Heard>, u8> {
-        let received = self.link.receive(&self.clear, time, in_flight);
+    pub fn next(&mut self, time: u32) -> Result<Option<Heard>, u8> {
+        let received = self.link.receive(&self.clear, time);
         let Received::Packet {
             packet_type,
             consumed,

@@ -21,11 +21,6 @@ pub fn case(g: &mut Generator, counts: &mut Counts) -> Compared {
     let stage = g.pick(&[0, 1, 2, 3, 4, 4, 4, 4, 4, 4]);
     let ends = pairs::opened(set_ups, stage, counts)?;
     let from = g.below(2) as usize;
-    let mut ends = ends;
-    if stage == 4 && draw::coin(g) {
-        after_fins(g, &mut ends, counts)?;
-    }
-    ends[from].in_flight = draw::in_flight(g);
     let end = &ends[from];
     if stage == 4 && one_in(g, 1000) {
         return long(g, end, &ends[1 - from], counts);
@@ -38,28 +33,13 @@ pub fn case(g: &mut Generator, counts: &mut Counts) -> Compared {
     };
     let message = draw::message(g, sender);
     let what = draw::outgoing(g, time, &message);
-    let mut second = end.second.clone();
-    let sent = second.send(&what, &mut [0; 1000], end.in_flight);
-    let needed = sent.unwrap_or(40);
+    let needed = end.second.clone().send(&what, &mut [0; 1000]).unwrap_or(40);
     let any = g.below(1000) as usize;
     let near = draw::near(g, needed);
     for room in [0, 11, 12, 15, 16, near, needed - 1, needed, needed + 1, any] {
         let filler = g.byte();
         end.clone().send(&what, time, room, filler, counts)?;
         with_noise(g, &mut end.clone(), &what, time, room)?;
-    }
-    Ok(())
-}
-
-/// Fins of either side, or of both, go over first; with something in flight they
-/// close nothing.
-pub fn after_fins(g: &mut Generator, ends: &mut [End; 2], counts: &mut Counts) -> Compared {
-    let fins = [Message::ClientFin, Message::ServerFin];
-    let first = g.below(2) as usize;
-    for from in [first, 1 - first].into_iter().take(1 + g.below(2) as usize) {
-        let fin = Outgoing::Message(fins[from]);
-        let sent = ends[from].send(&fin, 0, 100, 0, counts)?;
-        ends[1 - from].receive(&sent.expect("a first fin"), 0, counts)?;
     }
     Ok(())
 }
@@ -76,9 +56,8 @@ fn with_noise(
     let mut second = ours.clone();
     let (needed, payload) = to_send(what).raw();
     let outgoing = noisy(g, needed, end.shows_key());
-    let moment = raw_moment(end, time);
-    let sent = raw_send(end.ours.raw(), &mut ours, payload, outgoing, moment);
-    let answer = both::raw_sent(end.second.send(what, &mut second, end.in_flight));
+    let sent = raw_send(end.ours.raw(), &mut ours, payload, outgoing, time);
+    let answer = both::raw_sent(end.second.send(what, &mut second));
     let call = || format!("send, room {room}: {outgoing:02x?}, payload {payload:02x?}");
     same("a send with noise", call, sent, answer)?;
     same("a buffer sent with noise", call, &ours, &second)?;
@@ -90,7 +69,7 @@ pub fn raw_send(
     buffer: &mut [u8],
     payload: &[u8],
     outgoing: raw::Outgoing,
-    moment: raw::Moment,
+    time: u32,
 ) -> raw::Sent {
     // SAFETY: the link is borrowed, and each pointer and length are a slice's.
     unsafe {
@@ -101,16 +80,8 @@ pub fn raw_send(
             payload.as_ptr(),
             payload.len(),
             outgoing,
-            moment,
+            raw::Moment { time },
         )
-    }
-}
-
-/// What a driver of this end says, as it crosses the C interface.
-pub fn raw_moment(end: &End, time: u32) -> raw::Moment {
-    raw::Moment {
-        time,
-        inflight: end.in_flight,
     }
 }
 

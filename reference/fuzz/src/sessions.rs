@@ -16,6 +16,7 @@ use relay::{Address, Addresses, Card, Fault, Moment, Session};
 
 const TIME: u32 = 1_700_000_000;
 const NONCE_SIZE: usize = 76;
+const NOW: Moment = Moment { time: TIME };
 
 struct TestCard([u8; 32]);
 
@@ -36,15 +37,6 @@ struct Both {
     point: [u8; 32],
     /// Bytes on the way to it.
     coming: Vec<u8>,
-}
-
-/// With a count in flight that is 0 only now and then, so that fins close few.
-fn any_moment(g: &mut Generator) -> Moment {
-    let any = draw::in_flight(g);
-    Moment {
-        time: TIME,
-        in_flight: g.pick(&[1, 1, 2, any]),
-    }
 }
 
 pub fn case(g: &mut Generator, counts: &mut Counts) -> Compared {
@@ -75,11 +67,11 @@ pub fn case(g: &mut Generator, counts: &mut Counts) -> Compared {
         } else {
             let all = ends[i].coming.len();
             let lump = if coin(g) { all } else { draw::up_to(g, all) };
-            ends[i].hear(g, lump)?;
+            ends[i].hear(lump)?;
         }
     }
     for end in &mut ends {
-        end.hear(g, end.coming.len())?;
+        end.hear(end.coming.len())?;
         counts.add("session", Ok(end.word()));
     }
     Ok(())
@@ -159,9 +151,8 @@ impl Both {
                     what => what,
                 },
             };
-            let now = any_moment(g);
-            let ours = self.ours.send(to_send(&what), now).map_err(number);
-            let second = self.second.send(&what, now.in_flight);
+            let ours = self.ours.send(to_send(&what), NOW).map_err(number);
+            let second = self.second.send(&what);
             same(
                 "a session's send",
                 || format!("{:?}", to_send(&what)),
@@ -176,17 +167,16 @@ impl Both {
     }
 
     /// So many bytes come. With none it is asked all the same, and fed nothing.
-    fn hear(&mut self, g: &mut Generator, lump: usize) -> Compared {
+    fn hear(&mut self, lump: usize) -> Compared {
         let bytes: Vec<u8> = self.coming.drain(..lump).collect();
         if !bytes.is_empty() {
             self.ours.feed(&bytes);
             self.second.feed(&bytes);
         }
         loop {
-            let now = any_moment(g);
-            let ours = self.ours.next(now).map_err(number);
+            let ours = self.ours.next(NOW).map_err(number);
             let ours = ours.map(|packet| packet.map(|packet| (packet.kind, packet.body.to_vec())));
-            let second = self.second.next(TIME, now.in_flight);
+            let second = self.second.next(TIME);
             let call = || format!("{bytes:02x?}");
             same("what a session hears", call, &ours, &second)?;
             self.same_state()?;
@@ -201,14 +191,12 @@ impl Both {
             self.ours.is_open(),
             self.ours.is_closed(),
             self.ours.is_ciphered(),
-            (self.ours.is_our_fin_sent(), self.ours.has_their_fin()),
         );
         let state = self.second.state();
         let second = (
             !state.closed && state.stage == 4,
             state.closed,
             state.ciphered,
-            (state.fin_sent, state.fin_received),
         );
         same("a session's state", String::new, ours, second)
     }

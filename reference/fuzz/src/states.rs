@@ -65,8 +65,6 @@ pub fn ours(link: &raw::Link) -> State {
         since_handshake: u64::from(link.phase) * 4,
         key_id: link.keyid.to_le_bytes(),
         ciphered: link.ciphered,
-        fin_sent: link.ourfin,
-        fin_received: link.theirfin,
     }
 }
 

@@ -1,10 +1,8 @@
 //! Random lists of calls on a table, with few links and numbers, so that they
-//! meet, or with 48 to 64 requests in flight; gone peers of either side, publishers
-//! that are finishing, and deadlines by clocks that may go back, with slices that are
-//! too short now and then. After each call the table's members are held against one
-//! another too.
+//! meet, or with 48 to 64 requests in flight; gone peers of either side, and
+//! deadlines by clocks that may go back, with slices that are too short now and
+//! then. After each call the table's members are held against one another too.
 
-mod finishing;
 mod profiles;
 mod times;
 
@@ -36,7 +34,6 @@ enum Kind {
     Cancel,
     Gone,
     RunOut,
-    Finish,
 }
 
 /// The words of a call.
@@ -71,8 +68,6 @@ pub fn case(g: &mut Generator, counts: &mut Counts) -> Compared {
     let profile = &PROFILES[g.below(PROFILES.len() as u64) as usize];
     for _ in 0..g.pick(&[10, 100, 200, 300]) {
         both.call(g, profile, counts)?;
-        let publisher = rarely_beyond(g, 8, 8);
-        both.same_load(publisher, counts)?;
         counts.add("in flight", Ok(crowd(both.second.count())));
     }
     both.end(g, counts)
@@ -124,7 +119,6 @@ impl Both {
             }
             Kind::Gone => self.any_gone(g, (link, publisher), counts),
             Kind::RunOut => self.any_run_out(g, counts),
-            Kind::Finish => self.any_finish(g, publisher, counts),
             Kind::Ask => self.ask(link, front, publisher, counts),
             Kind::AskBy => self.any_ask_by(g, (link, front), publisher, counts),
         }
@@ -136,7 +130,7 @@ impl Both {
         } else {
             Kind::Ask
         };
-        if self.second.count() < profile.fewest && !one_in(g, 12) {
+        if self.second.count() < profile.fewest {
             return asked;
         }
         let mut roll = g.below(100);
@@ -145,7 +139,6 @@ impl Both {
             (profile.cancels, Kind::Cancel),
             (profile.drops, Kind::Gone),
             (profile.run_outs, Kind::RunOut),
-            (profile.finishes, Kind::Finish),
         ] {
             if roll < share {
                 return kind;
@@ -235,7 +228,7 @@ impl Both {
         let number = match side {
             _ if one_in(g, 10) => g.pick(&[7, 8, 31, 32, 255]),
             Side::Front => link,
-            Side::Publisher => self.finishing(g, publisher),
+            Side::Publisher => publisher,
         };
         let room = self.room(g, side, number, counts);
         self.gone(side, number, room, counts)?;
@@ -284,7 +277,6 @@ impl Both {
             )?;
         }
         holds_together(self.ours.raw(), self.second.count(), call)?;
-        self.same_marks(call)?;
         self.same_requests(call)
     }
 

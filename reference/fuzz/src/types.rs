@@ -6,7 +6,7 @@ use crate::compare::{same, Compared};
 use crate::counts::Counts;
 use crate::draw;
 use crate::pairs;
-use crate::sends::{random_outgoing, raw_moment, raw_send};
+use crate::sends::{random_outgoing, raw_send};
 use reference::generator::Generator;
 use reference::link::Outgoing;
 use reference::message::{values, Message, Side};
@@ -49,12 +49,8 @@ pub fn case(g: &mut Generator, counts: &mut Counts) -> Compared {
     };
     let payload = draw::payload(g);
     let mut ours = vec![0x5a; room];
-    end.in_flight = draw::in_flight(g);
-    let moment = raw_moment(&end, 0);
-    let sent = raw_send(end.ours.raw(), &mut ours, &payload, outgoing, moment);
-    let refusal = end
-        .second
-        .send(&wrong_way, &mut vec![0; room], end.in_flight);
+    let sent = raw_send(end.ours.raw(), &mut ours, &payload, outgoing, 0);
+    let refusal = end.second.send(&wrong_way, &mut vec![0; room]);
     let refused = raw::Sent {
         refusal: refusal.expect_err("the wrong way").number(),
         size: 0,

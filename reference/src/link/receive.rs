@@ -6,46 +6,29 @@ use super::{padding, Link, Received};
 use crate::message::Side;
 use crate::refusal::Refusal;
 
-/// What the driver says with a receive.
-#[derive(Clone, Copy)]
-struct Said {
-    our_time: u32,
-    in_flight: u32,
-}
-
 impl Link {
-    /// Looks at the lent bytes from their front, with so many requests of this
-    /// link in flight. In order: 20, 22, 26, 1, 3, 2, 4, 5, 6, 25, then 28, or
-    /// 7, 8, 24, 9, 10, or 17, 21; all but 20 and 22 close the link. So does a
-    /// server fin that is taken with none in flight.
-    pub fn receive(
-        &mut self,
-        bytes: &[u8],
-        our_time: u32,
-        in_flight: u32,
-    ) -> Result<Received, Refusal> {
+    /// Looks at the lent bytes from their front. In order: 20, 22, 26, 1, 3, 2,
+    /// 4, 5, 6, 25, then 7, 8, 24, 9, 10 or 17, 21; all but 20 and 22 close the
+    /// link.
+    pub fn receive(&mut self, bytes: &[u8], our_time: u32) -> Result<Received, Refusal> {
         let peer = match self.settings.side {
             Side::Client => Side::Server,
             Side::Server => Side::Client,
         };
         self.is_turn_of(peer)?;
-        let said = Said {
-            our_time,
-            in_flight,
-        };
-        let received = self.take(bytes, said);
-        self.closed |= received.is_err();
+        let received = self.take(bytes, our_time);
+        self.closed = received.is_err();
         received
     }
 
     /// The words before a packet, then the packet as if they were not there.
-    fn take(&mut self, bytes: &[u8], said: Said) -> Result<Received, Refusal> {
+    fn take(&mut self, bytes: &[u8], our_time: u32) -> Result<Received, Refusal> {
         let words = self.words_before(bytes)?;
-        let received = self.take_packet(&bytes[words..], said)?;
+        let received = self.take_packet(&bytes[words..], our_time)?;
         Ok(received.behind(words))
     }
 
-    fn take_packet(&mut self, bytes: &[u8], said: Said) -> Result<Received, Refusal> {
+    fn take_packet(&mut self, bytes: &[u8], our_time: u32) -> Result<Received, Refusal> {
         let Some(length) = packet::length(bytes, self.stage != Stage::Open)? else {
             return Ok(Received::Wait(4 - bytes.len()));
         };
@@ -60,7 +43,7 @@ impl Link {
         let (packet, zeros) = whole.split_at(length);
         let body = packet::checked_body(packet, self.checksum)?;
         padding::judge_zeros(zeros)?;
-        let clock = self.accept(front.packet_type, body.of(packet), said)?;
+        let clock = self.accept(front.packet_type, body.of(packet), our_time)?;
         self.incoming = self.incoming.wrapping_add(1);
         Ok(Received::Packet {
             packet_type: front.packet_type,
@@ -80,20 +63,15 @@ impl Link {
         Ok(())
     }
 
-    /// What a packet does to the link. Hands back the clock difference of a
-    /// Nonce.
-    fn accept(
-        &mut self,
-        packet_type: u32,
-        body: &[u8],
-        said: Said,
-    ) -> Result<Option<i64>, Refusal> {
+    /// What the packets of the link itself do to it; others pass. Hands back
+    /// the clock difference of a Nonce.
+    fn accept(&mut self, packet_type: u32, body: &[u8], time: u32) -> Result<Option<i64>, Refusal> {
         match packet_type {
-            NONCE => return self.accept_nonce(body, said.our_time).map(Some),
+            NONCE => return self.accept_nonce(body, time).map(Some),
             HANDSHAKE => self.accept_handshake(body)?,
             PING => self.accept_ping(packet::ping_id(body)?)?,
             PONG => self.accept_pong(packet::ping_id(body)?)?,
-            _ => self.accept_message(packet_type, said.in_flight)?,
+            _ => {}
         }
         Ok(None)
     }

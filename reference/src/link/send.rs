@@ -7,21 +7,15 @@ use crate::refusal::Refusal;
 
 impl Link {
     /// Writes the packet at the front of `buffer`, on padded links with the
-    /// zeros behind it, and hands back the size of all that; so many requests
-    /// of this link are in flight. In order: 20, 22, 5, 21, 19, 29, 12, 15, 2,
-    /// 16; none closes or moves the link.
-    pub fn send(
-        &mut self,
-        outgoing: &Outgoing,
-        buffer: &mut [u8],
-        in_flight: u32,
-    ) -> Result<usize, Refusal> {
+    /// zeros behind it, and hands back the size of all that. In order: 20, 22,
+    /// 5, 21, 19, 12, 15, 2, 16; none closes or moves the link.
+    pub fn send(&mut self, outgoing: &Outgoing, buffer: &mut [u8]) -> Result<usize, Refusal> {
         self.is_turn_of(self.settings.side)?;
         let packet_type = outgoing.packet_type();
         if !self.type_is_allowed(packet_type) {
             return Err(Refusal::TypeNotNow);
         }
-        let body = self.body(outgoing, in_flight)?;
+        let body = self.body(outgoing)?;
         let mut packet = packet::whole(self.outgoing, packet_type, &body, self.checksum);
         packet.resize(packet.len() + self.zeros_behind(packet.len()), 0);
         packet::put(buffer, &packet)?;
@@ -30,7 +24,7 @@ impl Link {
         Ok(packet.len())
     }
 
-    fn body(&self, outgoing: &Outgoing, in_flight: u32) -> Result<Vec<u8>, Refusal> {
+    fn body(&self, outgoing: &Outgoing) -> Result<Vec<u8>, Refusal> {
         match outgoing {
             Outgoing::Nonce(time, random, point) => Ok(self.nonce_body(*time, *random, *point)),
             Outgoing::Handshake(own, peer) => Ok(handshake_body(self.sets_flag(), *own, *peer)),
@@ -43,10 +37,7 @@ impl Link {
             Outgoing::Message(message) if message.sender() != self.settings.side => {
                 Err(Refusal::NotThisWay)
             }
-            Outgoing::Message(message) => {
-                self.may_send(message, in_flight)?;
-                message::body(message)
-            }
+            Outgoing::Message(message) => message::body(message),
         }
     }
 
@@ -78,7 +69,7 @@ impl Link {
             }
             Outgoing::Ping(id) => self.awaited = Some(*id),
             Outgoing::Pong => self.owed = None,
-            Outgoing::Message(message) => self.note_sent(message),
+            Outgoing::Message(_) => {}
         }
     }
 }

@@ -1,6 +1,5 @@
 mod ciphered;
 mod ciphered_after;
-mod fins;
 mod key;
 mod nonce_fields;
 mod padded;
@@ -34,7 +33,7 @@ impl Pair {
             Side::Server => (&mut self.server, &mut self.client),
         };
         let packet = sent(from, outgoing);
-        let received = to.receive(&packet, TIME, 1).unwrap();
+        let received = to.receive(&packet, TIME).unwrap();
         (packet, received)
     }
 
@@ -52,7 +51,7 @@ const HANDSHAKE_OUT: Outgoing = Outgoing::Handshake([1; 12], [2; 12]);
 
 fn sent(link: &mut Link, outgoing: Outgoing) -> Vec<u8> {
     let mut buffer = [0; 200];
-    let size = link.send(&outgoing, &mut buffer, 1).unwrap();
+    let size = link.send(&outgoing, &mut buffer).unwrap();
     buffer[..size].to_vec()
 }
 
@@ -122,7 +121,7 @@ fn waits_at_every_cut_and_changes_nothing() {
             4..12 => 12,
             _ => packet.len(),
         };
-        let received = server.receive(&packet[..n], TIME, 1);
+        let received = server.receive(&packet[..n], TIME);
         assert_eq!(received, Ok(Received::Wait(whole - n)));
     }
     let behind = [&packet[..], b"more"].concat();
@@ -132,7 +131,7 @@ fn waits_at_every_cut_and_changes_nothing() {
         body: Span { at: 12, len: 60 },
         clock: Some(-5),
     };
-    assert_eq!(server.receive(&behind, TIME + 5, 1), Ok(expected));
+    assert_eq!(server.receive(&behind, TIME + 5), Ok(expected));
 }
 
 #[test]
@@ -141,7 +140,7 @@ fn clocks_on_either_side_of_the_line() {
         let mut server = Link::new(Side::Server, false);
         let body = nonce_body(2, theirs, [0; 16]);
         let packet = packet::whole(packet::FIRST_NUMBER, NONCE, &body, CRC32);
-        match server.receive(&packet, ours, 1) {
+        match server.receive(&packet, ours) {
             Ok(Received::Packet { clock, .. }) => clock,
             _ => None,
         }
@@ -166,9 +165,7 @@ fn the_two_sides_judge_a_nonce_differently() {
         let mut body = nonce_body(version, TIME, [0; 16]);
         body[4] = encryption;
         let packet = packet::whole(packet::FIRST_NUMBER, NONCE, &body, CRC32);
-        link.receive(&packet, TIME, 1)
-            .err()
-            .map_or(0, Refusal::number)
+        link.receive(&packet, TIME).err().map_or(0, Refusal::number)
     };
     assert_eq!(judged(Side::Server, 1, 2), 9);
     assert_eq!(judged(Side::Server, 2, 255), 0);
@@ -206,7 +203,7 @@ fn a_server_answers_with_the_smaller_version() {
         let mut server = Link::new(Side::Server, true);
         let body = nonce_body(theirs, TIME, [0; 16]);
         let packet = packet::whole(packet::FIRST_NUMBER, NONCE, &body, CRC32);
-        server.receive(&packet, TIME, 1).unwrap();
+        server.receive(&packet, TIME).unwrap();
         assert_eq!(sent(&mut server, NONCE_OUT)[12 + 5], answered);
     }
 }
@@ -215,12 +212,12 @@ fn a_server_answers_with_the_smaller_version() {
 fn turns_types_and_ways() {
     let mut buffer = [0; 100];
     let mut number = |link: &mut Link, outgoing: Outgoing| {
-        let refusal = link.send(&outgoing, &mut buffer, 1).unwrap_err();
+        let refusal = link.send(&outgoing, &mut buffer).unwrap_err();
         refusal.number()
     };
     let mut client = Link::new(Side::Client, true);
     assert_eq!(number(&mut client, Outgoing::Ping(1)), 5);
-    assert_eq!(client.receive(&[], 0, 1), Err(Refusal::NotOurTurn));
+    assert_eq!(client.receive(&[], 0), Err(Refusal::NotOurTurn));
     sent(&mut client, NONCE_OUT);
     assert_eq!(number(&mut client, NONCE_OUT), 22);
     let mut pair = Pair::new(true, true).open();
@@ -238,29 +235,26 @@ fn one_ping_at_a_time_each_way() {
     let mut pair = Pair::new(false, false).open();
     let mut buffer = [0; 24];
     pair.pass(Side::Client, Outgoing::Ping(8));
-    let second = pair.client.send(&Outgoing::Ping(9), &mut buffer, 1);
+    let second = pair.client.send(&Outgoing::Ping(9), &mut buffer);
     assert_eq!(second, Err(Refusal::PingOutOfTurn));
     let (pong, _) = pair.pass(Side::Server, Outgoing::Pong);
     assert_eq!(pong[12..20], [8, 0, 0, 0, 0, 0, 0, 0]);
     pair.pass(Side::Client, Outgoing::Ping(9));
     let (number, checksum) = pair.server.expected();
     let again = packet::whole(number, PING, &[9; 8], checksum);
-    assert_eq!(
-        pair.server.receive(&again, 0, 1),
-        Err(Refusal::PingOutOfTurn)
-    );
+    assert_eq!(pair.server.receive(&again, 0), Err(Refusal::PingOutOfTurn));
     assert!(pair.server.is_closed());
-    assert_eq!(pair.server.receive(&[], 0, 1), Err(Refusal::LinkClosed));
+    assert_eq!(pair.server.receive(&[], 0), Err(Refusal::LinkClosed));
 }
 
 #[test]
 fn a_refused_send_leaves_link_and_buffer() {
     let mut pair = Pair::new(true, true).open();
     let mut buffer = [0xa5; 28];
-    let short = pair.client.send(&invoke(b"12345"), &mut buffer, 1);
+    let short = pair.client.send(&invoke(b"12345"), &mut buffer);
     assert_eq!(short, Err(Refusal::BufferTooSmall));
     assert_eq!(buffer, [0xa5; 28]);
-    assert_eq!(pair.client.send(&invoke(b"1234"), &mut buffer, 1), Ok(28));
+    assert_eq!(pair.client.send(&invoke(b"1234"), &mut buffer), Ok(28));
     assert_eq!(packet_number(&buffer), 0);
 }
 
@@ -268,7 +262,7 @@ fn a_refused_send_leaves_link_and_buffer() {
 fn a_message_too_long_is_2() {
     let mut pair = Pair::new(true, true).open();
     let payload = vec![0; 16_777_215 - 16 - 8 + 1];
-    let sent = |link: &mut Link, payload| link.send(&invoke(payload), &mut [], 1);
+    let sent = |link: &mut Link, payload| link.send(&invoke(payload), &mut []);
     let over = sent(&mut pair.client, &payload);
     assert_eq!(over, Err(Refusal::LengthTooLong));
     let exact = sent(&mut pair.client, &payload[1..]);
@@ -280,5 +274,5 @@ fn a_packet_of_the_wrong_way_passes_the_link() {
     let mut pair = Pair::new(true, false).open();
     let (number, checksum) = pair.client.expected();
     let packet = packet::whole(number, values::INVOKE, &[], checksum);
-    assert!(pair.client.receive(&packet, 0, 1).is_ok());
+    assert!(pair.client.receive(&packet, 0).is_ok());
 }

@@ -9,8 +9,7 @@
 //! up with every setting: see `link_settings`; if that is refused, the newest
 //! link stays as it was. Op 5 flushes: room (4 bytes); its line is like that of
 //! a send. Op 6 has no fields; its line tells whether the link is ciphered. Op
-//! 4 is how many requests the newest link has in flight from here on (4 bytes);
-//! a new link has 1. A line ends with ` closed` if the newest link is closed
+//! 4 is kept free. A line ends with ` closed` if the newest link is closed
 //! after the op.
 //!
 //! The conversations of a later request come behind all earlier ones, whose
@@ -22,7 +21,6 @@ mod tests;
 use super::link_bodies;
 use super::link_ciphered;
 use super::link_closing;
-use super::link_fins;
 use super::link_fronts;
 use super::link_openings;
 use super::link_padded;
@@ -44,7 +42,6 @@ pub const NEW: u8 = 0;
 pub const RECEIVE: u8 = 1;
 pub const SEND: u8 = 2;
 pub const SET_UP: u8 = 3;
-pub const COUNT: u8 = 4;
 pub const FLUSH: u8 = 5;
 pub const TELL: u8 = 6;
 
@@ -62,66 +59,36 @@ pub fn input() -> Vec<u8> {
     link_padded::push(&mut records);
     link_ciphered::push(&mut records);
     link_zero_timeouts::push(&mut records);
-    link_fins::push(&mut records);
     records
 }
 
 pub fn output(records: &[u8]) -> Vec<u8> {
-    output_by(records, |_| {})
-}
-
-/// The same with something done to the newest link after each op.
-fn output_by(records: &[u8], after_each: impl Fn(&mut Link)) -> Vec<u8> {
     let mut records = Records(records);
     let mut lines = String::new();
-    let mut newest = None;
+    let mut link = None;
     while let Some(op) = records.op() {
-        let line = line(op, &mut newest, &mut records);
-        lines += &line.unwrap_or_else(|refusal| format!("no {}", refusal.number()));
-        if let Some(end) = &mut newest {
-            after_each(&mut end.link);
-            if end.link.is_closed() {
-                lines += " closed";
+        let line = match (op, &mut link) {
+            (NEW, _) => {
+                link = Some(new_link(&mut records));
+                Ok("link".to_string())
             }
+            (SET_UP, _) => set_up(&mut records).map(|new| {
+                link = Some(new);
+                "link".to_string()
+            }),
+            (RECEIVE, Some(link)) => receive_line(link, &mut records),
+            (SEND, Some(link)) => send_line(link, &mut records),
+            (FLUSH, Some(link)) => flush_line(link, &mut records),
+            (TELL, Some(link)) => Ok(tell_line(link)),
+            _ => unreachable!("op {op}, or no link before it"),
+        };
+        lines += &line.unwrap_or_else(|refusal| format!("no {}", refusal.number()));
+        if link.as_ref().is_some_and(Link::is_closed) {
+            lines += " closed";
         }
         lines.push('\n');
     }
     lines.into_bytes()
-}
-
-/// The newest link, and how many requests it has in flight.
-#[derive(Clone)]
-struct End {
-    link: Link,
-    in_flight: u32,
-}
-
-impl End {
-    fn new(link: Link) -> End {
-        End { link, in_flight: 1 }
-    }
-}
-
-fn line(op: u8, newest: &mut Option<End>, records: &mut Records) -> Result<String, Refusal> {
-    match (op, newest) {
-        (NEW, newest) => {
-            *newest = Some(End::new(new_link(records)));
-            Ok("link".to_string())
-        }
-        (SET_UP, newest) => {
-            *newest = Some(End::new(set_up(records)?));
-            Ok("link".to_string())
-        }
-        (RECEIVE, Some(end)) => receive_line(end, records),
-        (SEND, Some(end)) => send_line(end, records),
-        (FLUSH, Some(end)) => flush_line(&mut end.link, records),
-        (TELL, Some(end)) => Ok(tell_line(&end.link)),
-        (COUNT, Some(end)) => {
-            end.in_flight = records.u32();
-            Ok("count".to_string())
-        }
-        _ => unreachable!("op {op}, or no link before it"),
-    }
 }
 
 fn new_link(records: &mut Records) -> Link {
@@ -134,10 +101,9 @@ fn set_up(records: &mut Records) -> Result<Link, Refusal> {
     link_settings::set_up(settings, key)
 }
 
-fn receive_line(end: &mut End, records: &mut Records) -> Result<String, Refusal> {
+fn receive_line(link: &mut Link, records: &mut Records) -> Result<String, Refusal> {
     let our_time = records.u32();
-    let bytes = records.run();
-    let line = match end.link.receive(bytes, our_time, end.in_flight)? {
+    let line = match link.receive(records.run(), our_time)? {
         Received::Wait(more) => format!("wait {more}"),
         Received::Packet {
             packet_type,
@@ -155,11 +121,10 @@ fn receive_line(end: &mut End, records: &mut Records) -> Result<String, Refusal>
     Ok(line)
 }
 
-fn send_line(end: &mut End, records: &mut Records) -> Result<String, Refusal> {
+fn send_line(link: &mut Link, records: &mut Records) -> Result<String, Refusal> {
     let (sending, room) = Sending::take(records);
     let mut buffer = vec![FILLING; room];
-    let outgoing = sending.outgoing();
-    let size = end.link.send(&outgoing, &mut buffer, end.in_flight)?;
+    let size = link.send(&sending.outgoing(), &mut buffer)?;
     Ok(written_line("sent", size, &buffer))
 }
 

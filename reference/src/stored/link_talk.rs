@@ -3,7 +3,7 @@
 
 mod set_up;
 
-use super::link_cases::{COUNT, FLUSH, RECEIVE, SEND, TELL};
+use super::link_cases::{FLUSH, RECEIVE, SEND, TELL};
 use super::link_sending::Sending;
 use super::message_cases::LONGEST;
 use super::records::{self, push_run, Draft};
@@ -30,12 +30,6 @@ pub struct Talk {
     pub time: u32,
     link: Link,
     peer: Link,
-    /// What each of the two has in flight.
-    count: u32,
-    pub peer_count: u32,
-    /// Conversations from before A6 stay as they are: their two ends forget
-    /// each fin at once.
-    heeds_fins: bool,
     /// Words of our flushes, which reach the peer before our next packet.
     words: Vec<u8>,
     /// Packets of the opening that were exchanged.
@@ -102,8 +96,7 @@ impl Talk {
     /// The size of the packet, if the link would send it now.
     pub fn size_of(&self, sending: &Sending) -> Option<usize> {
         let mut buffer = vec![0; LONGEST];
-        let mut link = self.link.clone();
-        let sent = link.send(&sending.outgoing(), &mut buffer, self.count);
+        let sent = self.link.clone().send(&sending.outgoing(), &mut buffer);
         sent.ok()
     }
 
@@ -126,14 +119,12 @@ impl Talk {
         self.records.push(SEND);
         sending.push(&mut self.records, room);
         let mut buffer = vec![0; room];
-        let sent = self.link.send(&sending.outgoing(), &mut buffer, self.count);
-        if let Ok(size) = sent {
+        if let Ok(size) = self.link.send(&sending.outgoing(), &mut buffer) {
             self.words.extend(&buffer[..size]);
             // A peer that a conversation has left behind refuses; let it.
-            let _ = self.peer.receive(&self.words, self.time, self.peer_count);
+            let _ = self.peer.receive(&self.words, self.time);
             self.words.clear();
         }
-        self.forget_fins();
     }
 
     /// Has the link flush into a buffer of `room` bytes.
@@ -166,25 +157,9 @@ impl Talk {
 
     pub fn peer_tries(&mut self, sending: &Sending) -> Result<Vec<u8>, Refusal> {
         let mut buffer = vec![0; LONGEST];
-        let outgoing = sending.outgoing();
-        let size = self.peer.send(&outgoing, &mut buffer, self.peer_count)?;
-        self.forget_fins();
+        let size = self.peer.send(&sending.outgoing(), &mut buffer)?;
         buffer.truncate(size);
         Ok(buffer)
-    }
-
-    fn forget_fins(&mut self) {
-        if !self.heeds_fins {
-            self.link.forget_fins();
-            self.peer.forget_fins();
-        }
-    }
-
-    /// From here on the link has so many in flight.
-    pub fn count(&mut self, count: u32) {
-        self.records.push(COUNT);
-        self.records.extend(count.to_le_bytes());
-        self.count = count;
     }
 
     /// The next sound packet: of the opening, or a message after it.
@@ -211,9 +186,7 @@ impl Talk {
         self.records.push(RECEIVE);
         self.records.extend(self.time.to_le_bytes());
         push_run(&mut self.records, bytes);
-        let received = self.link.receive(bytes, self.time, self.count);
-        self.forget_fins();
-        match received {
+        match self.link.receive(bytes, self.time) {
             Ok(Received::Packet { consumed, .. }) => Some(consumed),
             _ => None,
         }
@@ -230,8 +203,7 @@ impl Talk {
 
     /// Whether the link would wait for more than these bytes.
     pub fn would_wait(&self, bytes: &[u8]) -> bool {
-        let mut link = self.link.clone();
-        let received = link.receive(bytes, self.time, self.count);
+        let received = self.link.clone().receive(bytes, self.time);
         matches!(received, Ok(Received::Wait(_)))
     }
 
@@ -284,16 +256,6 @@ impl Talk {
 
     pub fn is_closed(&self) -> bool {
         self.link.is_closed()
-    }
-
-    /// Whether no Ping of theirs is unanswered.
-    pub fn owes_nothing(&self) -> bool {
-        self.link.state().owed.is_none()
-    }
-
-    /// Whether a Ping of ours is.
-    pub fn awaits(&self) -> bool {
-        self.link.state().awaited.is_some()
     }
 
     /// Stores the conversation. The empty receive at its end tells a link that

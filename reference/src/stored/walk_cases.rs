@@ -5,7 +5,6 @@
 //! m bytes of events. It gives the line `run N`, then the lines of the walk
 //! over the events, or only `no 30` if no table starts at N.
 
-use super::walk_fins;
 use super::walk_gone;
 use super::walk_scripts as scripts;
 use super::walk_scripts::Script;
@@ -53,15 +52,13 @@ pub fn input() -> Vec<u8> {
     walk_gone::push(&mut runs);
     runs.push(-5, scripts::example());
     walk_time::push(&mut runs);
-    runs.push(-5, scripts::example());
-    walk_fins::push(&mut runs);
     // The last run is one that is skipped, so that its end is the input's.
     runs.push(-5, scripts::example());
     runs.bytes
 }
 
-/// Every unknown kind, and every kind cut at every length. Kinds 6, 7 and 8
-/// were unknown when these were stored; their runs stay, and now go on.
+/// Every unknown kind, and every kind cut at every length. Kinds 6 and 7 were
+/// unknown when these were stored; their runs stay, and now go on.
 fn bad_events(runs: &mut Runs) {
     for kind in (0..=0).chain(6..=255) {
         runs.push(1, scripts::unknown_kind(kind));
@@ -148,41 +145,31 @@ mod tests {
     use crate::checksum::CRC32;
 
     /// What was stored at some time: size and CRC-32 of input and output, and
-    /// the output's lines; and the kinds that were unknown then, but are no more.
+    /// the output's lines.
     struct Stored {
-        unknown: &'static [u8],
         input: (usize, u32),
         output: (usize, u32),
         lines: usize,
     }
 
     /// Before the table had slots and masks, before one call stood for both
-    /// sides of a gone peer, before requests ran out, and before publishers were
-    /// finishing (document 02, A12, A4, A2 and A6).
-    const OLD: [Stored; 4] = [
+    /// sides of a gone peer, and before requests ran out (document 02, A12, A4
+    /// and A2).
+    const OLD: [Stored; 3] = [
         Stored {
-            unknown: &[6, 7, 8],
             input: (218_362, 0x466A_30A0),
             output: (274_858, 0x5417_D2F6),
             lines: 25_613,
         },
         Stored {
-            unknown: &[6, 7, 8],
             input: (338_511, 0xC525_CFD8),
             output: (454_852, 0x6F30_63F6),
             lines: 43_487,
         },
         Stored {
-            unknown: &[6, 7, 8],
             input: (377_620, 0x7B54_61C7),
             output: (523_621, 0x2A6D_856C),
             lines: 50_950,
-        },
-        Stored {
-            unknown: &[8],
-            input: (473_932, 0x6EB6_1C88),
-            output: (607_749, 0x03D2_F040),
-            lines: 60_282,
         },
     ];
 
@@ -199,26 +186,16 @@ mod tests {
     fn every_refusal_of_the_walk_occurs() {
         let text = String::from_utf8(output(&input())).unwrap();
         let count = |line: &str| text.lines().filter(|&other| other == line).count();
-        for (refusal, least) in [
-            (12, 50),
-            (27, 300),
-            (30, 100),
-            (31, 50),
-            (32, 50),
-            (33, 50),
-            (34, 50),
-        ] {
+        for (refusal, least) in [(12, 50), (30, 100), (31, 50), (32, 50), (33, 50), (34, 50)] {
             assert!(count(&format!("no {refusal}")) >= least, "no {refusal}");
         }
-        // 248 unknown kinds, one more where kind 7 was one, 30 cut records and
-        // the last ones of the runs with times and fins, and no other.
-        let mut later = Runs::default();
-        walk_time::push(&mut later);
-        walk_fins::push(&mut later);
-        let cut = runs_in(&later.bytes);
-        assert_eq!(count("no 35"), 248 + 1 + 30 + cut);
+        // 249 unknown kinds, one more where kind 7 was one, 30 cut records and
+        // the last ones of the runs with times, and no other.
+        let mut with_times = Runs::default();
+        walk_time::push(&mut with_times);
+        let cut = runs_in(&with_times.bytes);
+        assert_eq!(count("no 35"), 249 + 1 + 30 + cut);
         assert_eq!(count("no 16"), 0);
-        assert!(count("fin") > 150);
         assert!(count("closed 64") > 0 && count("lost 16") > 0);
         assert!(count("closed 0") > 0 && count("lost 0") > 0);
         assert!(count(&format!("ask {TOP}")) > 0);
@@ -234,11 +211,10 @@ mod tests {
         count
     }
 
-    /// As the output was while these kinds were unknown: the runs that are each
-    /// stored for one of them stopped there.
-    fn output_while_unknown(kinds: &[u8], input: &[u8]) -> Vec<u8> {
-        let of_kind = |&kind: &u8| scripts::unknown_kind(kind).bytes;
-        let unknown: Vec<Vec<u8>> = kinds.iter().map(of_kind).collect();
+    /// As the output was while kinds 6 and 7 were unknown: two runs, each
+    /// stored for one of them, stopped there.
+    fn output_before_times(input: &[u8]) -> Vec<u8> {
+        let unknown = [6, 7].map(|kind| scripts::unknown_kind(kind).bytes);
         output_by(input, |first, events, lines| {
             if unknown.iter().any(|bytes| bytes == events) {
                 lines.extend(b"ask 1\nno 35\n");
@@ -249,15 +225,10 @@ mod tests {
     }
 
     /// The bytes that stood behind an unknown kind are now its body: those
-    /// behind 6 are just one, behind 7 comes kind 0. Kind 8 takes the kind of
-    /// the ask behind it, whose body is then a reply.
+    /// behind 6 are just one, behind 7 comes kind 0.
     #[test]
-    fn what_kinds_print_where_they_were_unknown() {
-        for (kind, expected) in [
-            (6, "ask 1\nask 1\n"),
-            (7, "ask 1\nout 0\nno 35\n"),
-            (8, "ask 1\nfin\nno 34\nask 1\n"),
-        ] {
+    fn what_kinds_6_and_7_print_where_they_were_unknown() {
+        for (kind, expected) in [(6, "ask 1\nask 1\n"), (7, "ask 1\nout 0\nno 35\n")] {
             let mut lines = Vec::new();
             walk_run(1, &scripts::unknown_kind(kind).bytes, &mut lines);
             assert_eq!(String::from_utf8(lines).unwrap(), expected);
@@ -266,9 +237,8 @@ mod tests {
 
     #[test]
     fn the_old_runs_stay_in_front() {
-        let input = input();
+        let (input, output) = (input(), output_before_times(&input()));
         for old in &OLD {
-            let output = output_while_unknown(old.unknown, &input);
             for (bytes, (size, sum)) in [(&input, old.input), (&output, old.output)] {
                 assert_eq!(CRC32.of(&bytes[..size]), sum);
             }
@@ -276,7 +246,7 @@ mod tests {
             assert_eq!(lines(before), old.lines);
             assert!(after.starts_with(b"run 1\n"));
             // No changed rule: the old input alone gives the old output.
-            assert!(output_while_unknown(old.unknown, &input[..old.input.0]) == before);
+            assert!(output_before_times(&input[..old.input.0]) == before);
         }
     }
 

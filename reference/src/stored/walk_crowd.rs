@@ -23,8 +23,6 @@ pub enum Step {
     /// With the clock's time; some with a time that is refused.
     AskBy,
     RunOut,
-    /// Any publisher; few out of range.
-    Finish,
 }
 
 /// What the steps of a run are drawn from.
@@ -90,7 +88,6 @@ impl Crowd {
                 let time = self.time();
                 self.play.run_out([time]);
             }
-            Step::Finish => self.finish(),
         }
         let left = &self.play.entries;
         let is_freed = |entry: &&Entry| left.iter().all(|other| other.front != entry.front);
@@ -158,12 +155,6 @@ impl Crowd {
             Side::Publisher => self.publisher(),
         };
         self.play.gone(side, [number]);
-    }
-
-    fn finish(&mut self) {
-        let publisher = self.publisher();
-        let beyond = self.generator.pick(&[0, 0, 0, 0, 0, 8]);
-        self.play.finish([publisher | beyond]);
     }
 
     /// The end is asked again or not found.

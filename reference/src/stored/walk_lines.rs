@@ -54,7 +54,6 @@ fn lines_of(answer: Result<Answer, Refusal>, ends: &[i64]) -> Vec<String> {
         }
         Ok(Answer::Gone(side, count)) => (side.of("closed", "lost"), count),
         Ok(Answer::RunOut(count)) => ("out", count),
-        Ok(Answer::Finish) => return vec!["fin".to_string()],
         Err(refusal) => return vec![format!("no {}", refusal.number())],
     };
     let drop = |end: &[i64]| format!("drop {} {}", end[0], end[1]);

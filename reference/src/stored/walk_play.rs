@@ -192,13 +192,6 @@ impl Play {
         self.gone(Side::Publisher, publishers);
     }
 
-    /// Marks publishers as finishing.
-    pub fn finish(&mut self, publishers: impl IntoIterator<Item = u8>) {
-        for publisher in publishers {
-            self.push(Event::Finish(publisher));
-        }
-    }
-
     /// Frees `entry`; a gone peer frees others with it.
     pub fn free(&mut self, entry: Entry, way: Way) {
         match way {
@@ -250,7 +243,7 @@ impl Play {
 
 fn frees(event: Event, entry: &Entry, latest_time: u64) -> bool {
     match event {
-        Event::Ask(..) | Event::AskBy(..) | Event::Finish(_) => false,
+        Event::Ask(..) | Event::AskBy(..) => false,
         Event::RunOut(_) => entry
             .deadline
             .is_some_and(|deadline| deadline <= latest_time),

@@ -1,7 +1,6 @@
-//! The book of documents 01 and 02 (A2, A6), word for word: a plain list of
-//! entries, searched from the front, the latest time seen, and a list of the
-//! publishers that are finishing. Slow and obvious; the tests hold the table
-//! against it.
+//! The book of documents 01 and 02 (A2), word for word: a plain list of
+//! entries, searched from the front, and the latest time seen. Slow and
+//! obvious; the tests hold the table against it.
 
 use super::{End, Side};
 use crate::event::{Answer, Event};
@@ -23,8 +22,6 @@ pub struct Book {
     pub first: i64,
     pub last: [Option<i64>; 8],
     pub latest_time_seen: u64,
-    /// Each once, in no particular order.
-    pub finishing: Vec<u8>,
 }
 
 impl Book {
@@ -35,7 +32,6 @@ impl Book {
                 first,
                 last: [None; 8],
                 latest_time_seen: 0,
-                finishing: Vec::new(),
             }),
             _ => Err(Refusal::OutOfRange),
         }
@@ -57,7 +53,6 @@ impl Book {
                 self.ask_by(end, publisher, time, timeout).map(Answer::Ask)
             }
             Event::RunOut(time) => self.run_out(time, ends).map(Answer::RunOut),
-            Event::Finish(publisher) => self.finish(publisher).map(|()| Answer::Finish),
         }
     }
 
@@ -75,9 +70,6 @@ impl Book {
         }
         if self.of_front(link, front_number).is_some() {
             return Err(Refusal::InFlightAlready);
-        }
-        if self.finishing.contains(&publisher) {
-            return Err(Refusal::PublisherFinishing);
         }
         let sum: usize = (0..8).map(|p| self.load(p).max(4)).sum();
         match self.load(publisher) {
@@ -213,19 +205,6 @@ impl Book {
         }
         ends[..list.len()].copy_from_slice(&list);
         self.entries.retain(|entry| !struck(&entry));
-        if let Side::Publisher = side {
-            self.finishing.retain(|&publisher| publisher != number);
-        }
         Ok(list.len() / 2)
-    }
-
-    fn finish(&mut self, publisher: u8) -> Result<(), Refusal> {
-        if publisher > 7 {
-            return Err(Refusal::OutOfRange);
-        }
-        if !self.finishing.contains(&publisher) {
-            self.finishing.push(publisher);
-        }
-        Ok(())
     }
 }

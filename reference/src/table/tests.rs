@@ -1,5 +1,4 @@
 mod ask_by;
-mod finishing;
 mod gone;
 mod run_out;
 
@@ -119,8 +118,7 @@ fn entries(table: &Table) -> Vec<(End, End, Option<u64>)> {
 }
 
 /// One call on both, each lent a slice with the same content; compares the
-/// answers, the slices, the loads, the finishing publishers, the requests and
-/// the latest time.
+/// answers, the slices, the loads, the requests and the latest time.
 fn call_both(table: &mut Table, book: &mut Book, event: Event, lent: &[i64]) {
     let (mut ours, mut theirs) = (lent.to_vec(), lent.to_vec());
     let answer = event.call(table, &mut ours);
@@ -128,8 +126,6 @@ fn call_both(table: &mut Table, book: &mut Book, event: Event, lent: &[i64]) {
     assert_eq!(ours, theirs, "{event:?}");
     let loads: [usize; 8] = std::array::from_fn(|p| book.load(p as u8));
     assert_eq!(table.loads, loads, "{event:?}");
-    let finishing: [bool; 8] = std::array::from_fn(|p| book.finishing.contains(&(p as u8)));
-    assert_eq!(table.finishing, finishing, "{event:?}");
     assert_eq!(table.count(), book.entries.len());
     let of_book = book.entries.iter().map(|entry| {
         let publisher = (entry.publisher, entry.publisher_number);

@@ -48,14 +48,13 @@ extern "C" {
     pub fn relay_fresh_lent(
         masks: *mut [u64; 9],
         numbers: *mut [i64; 136],
-        places: *mut [u8; 136],
         times: *mut [u64; 65],
         first: PublisherNumber,
     ) -> u8;
     pub fn relay_ask_lent(
         masks: *mut [u64; 9],
         numbers: *mut [i64; 136],
-        places: *mut [u8; 136],
+        places: *mut [u8; 128],
         order: *mut [u8; 64],
         times: *mut [u64; 65],
         link: u8,
@@ -67,7 +66,7 @@ extern "C" {
     pub fn relay_reply_lent(
         masks: *mut [u64; 9],
         numbers: *const [i64; 136],
-        places: *const [u8; 136],
+        places: *const [u8; 128],
         order: *mut [u8; 64],
         publisher: u8,
         number: PublisherNumber,
@@ -75,7 +74,7 @@ extern "C" {
     pub fn relay_cancel_lent(
         masks: *mut [u64; 9],
         numbers: *const [i64; 136],
-        places: *const [u8; 136],
+        places: *const [u8; 128],
         order: *mut [u8; 64],
         link: u8,
         number: FrontNumber,
@@ -83,7 +82,7 @@ extern "C" {
     pub fn relay_gone_lent(
         masks: *mut [u64; 9],
         numbers: *const [i64; 136],
-        places: *mut [u8; 136],
+        places: *const [u8; 128],
         order: *mut [u8; 64],
         publisher: bool,
         number: u8,
@@ -93,31 +92,21 @@ extern "C" {
     pub fn relay_run_out_lent(
         masks: *mut [u64; 9],
         numbers: *const [i64; 136],
-        places: *const [u8; 136],
+        places: *const [u8; 128],
         order: *mut [u8; 64],
         times: *mut [u64; 65],
         time: u64,
         out: *mut i64,
         n: usize,
     ) -> Dropped;
-    pub fn relay_finish_lent(places: *mut [u8; 136], publisher: u8) -> u8;
-    pub fn relay_load_lent(masks: *const [u64; 9], publisher: u8) -> LoadAnswer;
 }
 
 // A table's calls: they lend its arrays where they stand and copy none, as the
 // inline functions of include/relay.h do.
 
 pub fn relay_fresh(t: &mut Table, first: PublisherNumber) -> u8 {
-    // SAFETY: the arrays are borrowed, each once.
-    unsafe {
-        relay_fresh_lent(
-            &mut t.masks,
-            &mut t.numbers,
-            &mut t.places,
-            &mut t.times,
-            first,
-        )
-    }
+    // SAFETY: the arrays are borrowed.
+    unsafe { relay_fresh_lent(&mut t.masks, &mut t.numbers, &mut t.times, first) }
 }
 
 pub fn relay_ask(t: &mut Table, link: u8, number: FrontNumber, publisher: u8) -> Asked {
@@ -183,7 +172,7 @@ pub fn relay_gone(t: &mut Table, publisher: bool, number: u8, out: &mut [i64]) -
         relay_gone_lent(
             &mut t.masks,
             &t.numbers,
-            &mut t.places,
+            &t.places,
             &mut t.order,
             publisher,
             number,
@@ -207,14 +196,4 @@ pub fn relay_run_out(t: &mut Table, time: u64, out: &mut [i64]) -> Dropped {
             out.len(),
         )
     }
-}
-
-pub fn relay_finish(t: &mut Table, publisher: u8) -> u8 {
-    // SAFETY: the array is borrowed.
-    unsafe { relay_finish_lent(&mut t.places, publisher) }
-}
-
-pub fn relay_load(t: &Table, publisher: u8) -> LoadAnswer {
-    // SAFETY: the array is borrowed.
-    unsafe { relay_load_lent(&t.masks, publisher) }
 }

@@ -56,7 +56,7 @@ fn structs() -> Vec<String> {
                 only
             }
         ),
-        lines!(relay_moment, Moment { time, inflight }),
+        lines!(relay_moment, Moment { time }),
         lines!(
             relay_link,
             Link {
@@ -69,8 +69,6 @@ fn structs() -> Vec<String> {
                 awaits,
                 owes,
                 ciphered,
-                ourfin,
-                theirfin,
                 keyid,
                 sends,
                 gets,
@@ -197,7 +195,6 @@ fn structs() -> Vec<String> {
             }
         ),
         lines!(relay_dropped, Dropped { refusal, count }),
-        lines!(relay_load_answer, LoadAnswer { refusal, load }),
     ]
     .concat()
 }

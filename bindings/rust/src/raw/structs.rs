@@ -35,7 +35,6 @@ pub struct Settings {
 #[derive(Clone, Copy, Debug, PartialEq, Eq)]
 pub struct Moment {
     pub time: u32,
-    pub inflight: u32,
 }
 
 #[repr(C)]
@@ -50,8 +49,6 @@ pub struct Link {
     pub awaits: bool,
     pub owes: bool,
     pub ciphered: bool,
-    pub ourfin: bool,
-    pub theirfin: bool,
     pub keyid: u32,
     pub sends: u32,
     pub gets: u32,
@@ -189,7 +186,7 @@ pub struct Chained {
 pub struct Table {
     pub masks: [u64; 9],
     pub numbers: [i64; 136],
-    pub places: [u8; 136],
+    pub places: [u8; 128],
     pub order: [u8; 64],
     pub times: [u64; 65],
 }
@@ -222,11 +219,4 @@ pub struct Cancelled {
 pub struct Dropped {
     pub refusal: u8,
     pub count: usize,
-}
-
-#[repr(C)]
-#[derive(Clone, Copy, Debug, PartialEq, Eq)]
-pub struct LoadAnswer {
-    pub refusal: u8,
-    pub load: usize,
 }

@@ -3,7 +3,6 @@
 //! that a call reads is written here and seen by what the call does.
 
 mod cipher;
-mod fins;
 mod keys;
 mod links;
 mod messages;
@@ -64,31 +63,12 @@ fn link(server: bool, allows: bool) -> Link {
     answer.link
 }
 
-/// With nothing in flight.
 fn receive(link: &mut Link, bytes: &[u8], time: u32) -> Arrival {
-    receive_at(link, bytes, Moment { time, inflight: 0 })
+    unsafe { relay_receive(link, bytes.as_ptr(), bytes.len(), Moment { time }) }
 }
 
-fn receive_at(link: &mut Link, bytes: &[u8], moment: Moment) -> Arrival {
-    unsafe { relay_receive(link, bytes.as_ptr(), bytes.len(), moment) }
-}
-
-/// With nothing in flight.
 fn send(link: &mut Link, buf: &mut [u8], payload: &[u8], outgoing: Outgoing) -> Sent {
-    let moment = Moment {
-        time: 0x0403_0201,
-        inflight: 0,
-    };
-    send_at(link, buf, payload, outgoing, moment)
-}
-
-fn send_at(
-    link: &mut Link,
-    buf: &mut [u8],
-    payload: &[u8],
-    outgoing: Outgoing,
-    moment: Moment,
-) -> Sent {
+    let moment = Moment { time: 0x0403_0201 };
     unsafe {
         relay_send(
             link,

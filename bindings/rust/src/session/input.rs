@@ -73,13 +73,6 @@ impl Input {
         self.open();
     }
 
-    /// Nothing behind the last packet is read any more.
-    pub fn end(&mut self) {
-        self.state = State::Clear;
-        self.bytes.truncate(self.used);
-        self.clear = self.used;
-    }
-
     /// Makes clear what can be: of a block that is not whole nothing can.
     fn open(&mut self) {
         match &mut self.state {
@@ -116,17 +109,6 @@ mod tests {
     }
 
     #[test]
-    fn behind_the_end_nothing_is_kept() {
-        let mut input = Input::default();
-        input.feed(b"the last packet and more");
-        let body = input.used(15, 4..8);
-        input.end();
-        assert_eq!((input.part(&body), input.clear()), (&b"last"[..], &b""[..]));
-        input.let_go();
-        assert_eq!((input.used, input.clear, input.bytes.len()), (0, 0, 0));
-    }
-
-    #[test]
     fn behind_a_seal_nothing_is_clear() {
         let mut input = Input::default();
         input.feed(b"nonce and more");
@@ -150,10 +132,7 @@ mod tests {
 
     #[test]
     fn a_closed_session_has_no_input_and_no_keys_for_it() {
-        let moment = Moment {
-            time: 1,
-            in_flight: 0,
-        };
+        let moment = Moment { time: 1 };
         let [mut client, mut server] = [Side::Client, Side::Server].map(|side| {
             let settings = Settings::new(side, true).with_cipher(Cipher::CipherOnly);
             Session::with_key(settings, &[1; 32], Ones, Addresses::default()).unwrap()

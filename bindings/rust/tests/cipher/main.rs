@@ -21,10 +21,8 @@ use relay::{Cipher, Moment, Side};
 
 const SIDES: [Side; 2] = [Side::Client, Side::Server];
 const CIPHERS: [Cipher; 3] = [Cipher::ClearOnly, Cipher::CipherOnly, Cipher::Either];
-/// With a request in flight: a server fin closes nothing.
 const NOW: Moment = Moment {
     time: 1_700_000_000,
-    in_flight: 1,
 };
 /// Its first four bytes are the KeyID.
 const KEY: [u8; 40] = *b"KeyID and as many bytes more as it takes";

@@ -7,11 +7,9 @@ use relay::{checksum, packet_type, Arrival, Link, Moment, Refusal, Settings, Sid
 
 const CLIENT_TIME: Moment = Moment {
     time: 1_700_000_000,
-    in_flight: 0,
 };
 const SERVER_TIME: Moment = Moment {
     time: 1_700_000_007,
-    in_flight: 0,
 };
 const CLIENT_RANDOM: [u8; 16] = *b"abcdefghijklmnop";
 const SERVER_RANDOM: [u8; 16] = *b"ABCDEFGHIJKLMNOP";

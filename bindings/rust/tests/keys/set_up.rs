@@ -8,7 +8,6 @@ use relay::{
 
 const NOW: Moment = Moment {
     time: 1_700_000_000,
-    in_flight: 0,
 };
 
 /// The refusal at either side.

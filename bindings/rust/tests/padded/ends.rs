@@ -5,11 +5,8 @@ use relay::{
     Side, ToSend,
 };
 
-/// With a request in flight, so that a client may send its fin, and stays open
-/// after a server's.
 pub const NOW: Moment = Moment {
     time: 1_700_000_000,
-    in_flight: 1,
 };
 const PID: NetPid = NetPid {
     ip: 1,

@@ -4,10 +4,10 @@ use Rattle.link_check.proofs.records.Statement.{statement}
 use Rattle.link_check.proofs.records.Tie as tie
 
 abbrev invariant-loop : tie.invariant-loop
-invariant-loop lent₀ link₀ inflight₀ turns₀ lent link inflight turns = length lent ≡ length lent₀
+invariant-loop lent₀ link₀ turns₀ lent link turns = length lent ≡ length lent₀
 
 abbrev decreases-loop : tie.decreases-loop
-decreases-loop lent₀ link₀ inflight₀ turns₀ lent link inflight turns = turns
+decreases-loop lent₀ link₀ turns₀ lent link turns = turns
 
 pub records-spec : {M : Type 1} → statement M
 records-spec =

@@ -1,7 +1,6 @@
 //! How connections come about: front ends connect to us, and a thread for each
 //! publisher connects to it, again and again.
 
-use super::stop::Listening;
 use super::stream::{self, Owner};
 use super::Input;
 use crate::event::Peer;
@@ -15,10 +14,9 @@ use std::time::Duration;
 const CONNECT_TIMEOUT: Duration = Duration::from_secs(2);
 const ACCEPT_PAUSE: Duration = Duration::from_millis(20);
 
-pub fn accept(listener: TcpListener, listening: &Listening, inputs: &SyncSender<Input>) {
+pub fn accept(listener: &TcpListener, inputs: &SyncSender<Input>) {
     loop {
         match listener.accept() {
-            _ if listening.has_ended() => return,
             Ok((stream, _)) => {
                 if inputs.send(Input::Accepted(stream)).is_err() {
                     return;

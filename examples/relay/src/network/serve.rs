@@ -1,7 +1,6 @@
 //! Starts the threads, and is itself the core's.
 
 use super::server::Server;
-use super::stop::{on_sigterm, Listening};
 use super::{connect, Input};
 use crate::card::CardKind;
 use crate::settings::LinkSettings;
@@ -36,26 +35,22 @@ pub struct Options {
     pub opening: Duration,
     /// From a request's acceptance until it ends with an error, in milliseconds.
     pub request: Option<NonZeroU32>,
-    /// From when it is told to stop until it ends, whatever is in flight.
-    pub stop: Duration,
     /// Whose cards links that may cipher have; there is one if any link may.
     pub card: Option<CardKind>,
 }
 
-/// Runs the relay, until SIGTERM tells it to stop and its conversations are over.
-/// Each line on standard input prints the counts.
+/// Runs the relay. Comes back only if it cannot be started. Each line on
+/// standard input prints the counts.
 pub fn serve(listener: TcpListener, options: &Options) -> io::Result<()> {
     let (inputs, queue) = sync_channel(INPUTS);
-    let listening = Listening::at(&listener)?;
-    let server = Server::new(options, listening.clone(), inputs.clone())?;
-    on_sigterm(inputs.clone())?;
+    let server = Server::new(options, inputs.clone())?;
     for (publisher, Publisher { address, .. }) in (0..).zip(&options.publishers) {
         let (address, retry, inputs) = (*address, options.retry, inputs.clone());
         thread::spawn(move || connect::keep_connected(publisher, address, retry, &inputs));
     }
     let reports = inputs.clone();
     thread::spawn(move || report(&reports));
-    thread::spawn(move || connect::accept(listener, &listening, &inputs));
+    thread::spawn(move || connect::accept(&listener, &inputs));
     run(server, &queue);
     Ok(())
 }
@@ -71,7 +66,7 @@ fn report(inputs: &SyncSender<Input>) {
 /// Deadlines are looked at before each input, so that no flood of inputs
 /// puts them off.
 fn run(mut server: Server, queue: &Receiver<Input>) {
-    while !server.is_over() {
+    loop {
         server.expire(Instant::now());
         let wait = server
             .next_deadline()

@@ -3,7 +3,6 @@
 use super::beat::Beat;
 use super::connection::Connection;
 use super::printer::Printer;
-use super::stop::Listening;
 use super::stream::{spawn_reader, spawn_writer, Owner};
 use super::{Input, Options};
 use crate::card::CardKind;
@@ -32,25 +31,17 @@ pub struct Server {
     start: u32,
     started: Instant,
     keep_alive: Beat,
-    /// For requests that have run out, held ones too.
-    looks: Beat,
+    /// For requests that have run out, if they do.
+    looks: Option<Beat>,
     opening: Duration,
-    listening: Listening,
-    /// What it has to stop, and by when it must have, once it is told to.
-    stop: Duration,
-    stopped_by: Option<Instant>,
 }
 
 impl Server {
-    pub fn new(
-        options: &Options,
-        listening: Listening,
-        inputs: SyncSender<Input>,
-    ) -> io::Result<Server> {
+    pub fn new(options: &Options, inputs: SyncSender<Input>) -> io::Result<Server> {
         let publishers = options.publishers.each_ref();
         let publishers = publishers.map(|publisher| publisher.link.clone());
         let started = Instant::now();
-        let timeout = options.request.map_or(u32::MAX, NonZeroU32::get);
+        let of_timeout = |timeout: NonZeroU32| Beat::of_timeout(timeout.get(), started);
         Ok(Server {
             core: Core::new(options.front.clone(), publishers, options.request),
             card: options.card,
@@ -62,19 +53,16 @@ impl Server {
             start: clock(),
             started,
             keep_alive: Beat::new(options.keep_alive, started),
-            looks: Beat::of_timeout(timeout, started),
+            looks: options.request.map(of_timeout),
             opening: options.opening,
-            listening,
-            stop: options.stop,
-            stopped_by: None,
         })
     }
 
     pub fn next_deadline(&self) -> Instant {
         let deadlines = self.connections.values().filter_map(Connection::deadline);
+        let looks = self.looks.iter().map(|looks| looks.next);
         deadlines
-            .chain([self.looks.next])
-            .chain(self.stopped_by)
+            .chain(looks)
             .fold(self.keep_alive.next, Instant::min)
     }
 
@@ -83,11 +71,8 @@ impl Server {
         if self.keep_alive.is_due(now) {
             self.tell(Event::Tick);
         }
-        if self.looks.is_due(now) {
+        if self.looks.as_mut().is_some_and(|looks| looks.is_due(now)) {
             self.tell(Event::RunOut);
-        }
-        if self.stopped_by.is_some_and(|by| by <= now) && !self.core.is_done() {
-            self.tell(Event::StopOver);
         }
         while let Some((peer, connection)) = self.overdue(now) {
             if connection.expire() {
@@ -122,20 +107,7 @@ impl Server {
                 // The relay goes on if nobody reads its output.
                 let _ = writeln!(io::stdout(), "{}", self.core.counts());
             }
-            Input::Stop => self.stop(),
         }
-    }
-
-    fn stop(&mut self) {
-        self.stopped_by = Some(Instant::now() + self.stop);
-        self.listening.end();
-        self.tell(Event::Stop);
-    }
-
-    /// It was told to stop, and all is written, or its time is over.
-    pub fn is_over(&self) -> bool {
-        let is_late = self.stopped_by.is_some_and(|by| by <= Instant::now());
-        self.core.is_done() && (self.connections.is_empty() || is_late)
     }
 
     /// The connection of a peer, if it is still this one.

@@ -3,7 +3,7 @@
 use crate::other_end::OtherEnd;
 use crate::world::{self, World};
 use crate::{answer, answered, ask, code};
-use reference::message::{values, Message, Side};
+use reference::message::{Message, Side};
 use relay_example::event::{Event, Peer};
 
 #[test]
@@ -30,6 +30,21 @@ fn bytes_may_come_one_by_one() {
 }
 
 #[test]
+fn a_publisher_that_wants_to_finish_is_let_go() {
+    let mut world = World::new();
+    world.front_says(0, ask(1, 5));
+    world.publisher_got(5);
+    world.publisher_says(5, Message::ServerFin);
+    assert_eq!(world.publisher_got(5), [Message::ClientFin]);
+    world.front_says(0, ask(2, 5));
+    assert_eq!(code(&world.front_got(0)[0], 2), 20);
+    assert_eq!(world.closed, []);
+    world.publisher_says(5, answer(1, b"the last"));
+    assert_eq!(world.front_got(0), [answered(1, b"the last")]);
+    assert_eq!(world.closed, [Peer::Publisher(5)]);
+}
+
+#[test]
 fn a_silent_peer_is_given_up() {
     let mut world = World::new();
     world.tell(Event::Tick);
@@ -49,12 +64,9 @@ fn a_front_end_asks_nothing_after_its_fin() {
     world.front_says(0, Message::ClientFin);
     world.publisher_says(2, answer(1, b"still answered"));
     assert_eq!(world.front_got(0), [answered(1, b"still answered")]);
-    assert_eq!(world.closed, []);
-    let body = [&2_i64.to_le_bytes()[..], b"question"].concat();
-    world.front_says_raw(0, values::INVOKE, &body);
+    world.front_says(0, ask(2, 2));
     assert_eq!(world.closed, [Peer::Front(0)]);
     assert_eq!(world.publisher_got(2).len(), 1);
-    assert_eq!(world.core.counts().faults, [(28, 1)].into());
 }
 
 /// A new connection whose opening comes to no end.

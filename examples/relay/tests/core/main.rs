@@ -4,7 +4,6 @@ mod cipher;
 mod cipher_faults;
 mod connections;
 mod gone;
-mod held;
 #[path = "../no_timeout/mod.rs"]
 mod no_timeout;
 #[path = "../other_end/mod.rs"]
@@ -13,9 +12,7 @@ mod padded;
 mod padding_faults;
 mod repeated;
 mod requests;
-mod restarts;
 mod run_out;
-mod stopping;
 mod timeouts;
 #[path = "../unreadable/mod.rs"]
 mod unreadable;

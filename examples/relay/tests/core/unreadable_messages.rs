@@ -126,22 +126,23 @@ fn what_names_no_request_is_counted_alone() {
     world.front_says(0, ask(1, 0));
     world.publisher_got(0);
     let one = 1_i64.to_le_bytes();
-    // Number 0, a cut number, too long a cancel, no message at all, and an answer
-    // from the wrong side; at last too long a fin, behind which no request comes.
+    // Number 0, a cut number, too long a cancel and fin, no message at all,
+    // and an answer from the wrong side.
     world.front_says_raw(0, values::INVOKE, &[0; 8]);
     world.front_says_raw(0, values::INVOKE, &one[..7]);
     world.front_says_raw(0, values::CANCEL, &[&one[..], &[0]].concat());
+    world.front_says_raw(0, values::CLIENT_FIN, &one);
     world.front_says_raw(0, 0x1234_5678, &one);
     world.front_says_raw(0, values::RESULT, &one);
-    world.front_says_raw(0, values::CLIENT_FIN, &one);
     for packet_type in [values::RESULT, values::OLD_ERROR] {
         world.publisher_says_raw(0, packet_type, &[0; 16]);
         world.publisher_says_raw(0, packet_type, &one[..7]);
     }
+    world.publisher_says_raw(0, values::SERVER_FIN, &one);
     world.publisher_says_raw(0, values::INVOKE, &one);
     world.publisher_says_raw(0, 0x1234_5678, &one);
     let counts = world.core.counts();
-    assert_eq!((counts.unread, counts.late), (12, 0));
+    assert_eq!((counts.unread, counts.late), (13, 0));
     assert_eq!(counts.in_flight(), 1);
     assert_eq!(
         (world.front_got(0), world.publisher_got(0)),

@@ -254,11 +254,6 @@ impl World {
         self.flush(Peer::Publisher(publisher));
     }
 
-    /// A front end whose link the relay's fin has closed, or not.
-    pub fn is_front_closed(&mut self, link: u8) -> bool {
-        self.end(Peer::Front(link)).0.is_closed()
-    }
-
     /// What came since the last look.
     pub fn front_got(&mut self, link: u8) -> Vec<Heard> {
         std::mem::take(&mut self.end(Peer::Front(link)).1)

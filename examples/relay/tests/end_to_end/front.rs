@@ -251,13 +251,9 @@ impl Front {
         self.finish(life, deadline)
     }
 
-    /// No more requests; the last answers are waited for. With none to come nothing
-    /// is said.
+    /// No more requests; the last answers are waited for.
     fn finish(&mut self, mut life: Life, deadline: Instant) -> Result<(), String> {
-        if life.socket.end.in_flight() > 0 {
-            self.tally.add("front fins", 1);
-            life.socket.end.send_message(Message::ClientFin);
-        }
+        life.socket.end.send_message(Message::ClientFin);
         let is_busy = |life: &Life| life.claims.count() > 0 || life.awaited.is_some();
         while is_busy(&life) || life.socket.end.past_blocks() > 0 {
             self.step(&mut life, deadline)?;

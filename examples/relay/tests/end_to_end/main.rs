@@ -7,9 +7,8 @@
 //! through the cipher.
 //!
 //! Beside these runs, with its own relay each, what happens step by step: to old
-//! publishers, to one that hangs, to those that restart, to what cannot be read, to
-//! slow readers, to slow openings, on links that are padded at both ends or at one,
-//! on ciphered ones, and when the relay is told to stop.
+//! publishers, to one that hangs, to what cannot be read, to slow readers, to slow
+//! openings, on links that are padded at both ends or at one, and on ciphered ones.
 
 mod answering;
 mod asking;
@@ -28,11 +27,9 @@ mod process;
 mod profile;
 mod publisher;
 mod request;
-mod restarts;
 mod slow_readers;
 mod socket;
 mod steps;
-mod stopping;
 mod tally;
 #[path = "../unreadable/mod.rs"]
 mod unreadable;
@@ -228,7 +225,6 @@ fn check_all_happened(tally: &Tally, counts: &Tally) {
         "link broken",
         "link repeated",
         "link finished",
-        "front fins",
         "timeouts of 0",
         "pongs to front ends",
         "pongs to publishers",
@@ -254,8 +250,6 @@ fn check_all_happened(tally: &Tally, counts: &Tally) {
         "unreadable",
         "unread",
         "idle_cancels",
-        "held",
-        "fins",
     ] {
         assert!(counts.get(name) > 0, "the relay had no {name}");
     }

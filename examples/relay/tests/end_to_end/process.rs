@@ -4,7 +4,7 @@ use crate::tally::Tally;
 use std::fs;
 use std::io::{BufRead, BufReader, Write};
 use std::net::SocketAddr;
-use std::process::{Child, ChildStderr, ChildStdin, ChildStdout, Command, ExitStatus, Stdio};
+use std::process::{Child, ChildStderr, ChildStdin, ChildStdout, Command, Stdio};
 use std::sync::mpsc::{channel, RecvTimeoutError, Sender};
 use std::sync::{Arc, Mutex};
 use std::thread;
@@ -109,29 +109,6 @@ impl RelayProcess {
         Size {
             threads: number("Threads:"),
             memory: number("VmRSS:") / 1024,
-        }
-    }
-
-    /// Sends it SIGTERM.
-    pub fn tell_to_stop(&self) {
-        let pid = self.child.lock().expect("the child").id();
-        let told = Command::new("kill")
-            .args(["-TERM", &pid.to_string()])
-            .status();
-        assert!(told.expect("kill").success());
-    }
-
-    /// How it ended, if it did in time.
-    pub fn end(&self, patience: Duration) -> Option<ExitStatus> {
-        let deadline = Instant::now() + patience;
-        loop {
-            let mut child = self.child.lock().expect("the child");
-            let ended = child.try_wait().expect("its state");
-            if ended.is_some() || Instant::now() > deadline {
-                return ended;
-            }
-            drop(child);
-            thread::sleep(Duration::from_millis(10));
         }
     }
 

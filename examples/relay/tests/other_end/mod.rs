@@ -14,11 +14,10 @@ pub use tunnel::{Secrets, CIPHERS, KEY};
 
 use reference::link::packet::{whole, HANDSHAKE, NONCE, PING, PONG};
 use reference::link::{Link, Outgoing, Received, Settings};
-use reference::message::{self, Message, Outcome, Side};
+use reference::message::{self, Message, Side};
 use reference::numbers::read_u32;
 use relay::checksum::crc32;
 use relay::Addresses;
-use std::collections::BTreeSet;
 use tunnel::Tunnel;
 
 /// What came that the link does not deal with itself.
@@ -51,8 +50,6 @@ pub struct OtherEnd {
     has_their_nonce: bool,
     /// Pings of the relay that were answered.
     pub answered_pings: u64,
-    /// Requests that it sent, neither answered nor cancelled.
-    asked: BTreeSet<i64>,
 }
 
 impl OtherEnd {
@@ -100,7 +97,6 @@ impl OtherEnd {
             open: false,
             has_their_nonce: false,
             answered_pings: 0,
-            asked: BTreeSet::new(),
         };
         if settings.side == Side::Client {
             end.send_nonce().expect("an offer");
@@ -113,11 +109,10 @@ impl OtherEnd {
     pub fn take_in(&mut self, bytes: &[u8]) -> Result<Vec<Got>, String> {
         self.wire.extend_from_slice(bytes);
         let mut got = Vec::new();
-        while !self.link.is_closed() {
+        loop {
             self.open()?;
             let seen = self.input.len() - self.not_seen();
-            let in_flight = self.in_flight();
-            let received = self.link.receive(&self.input[..seen], clock(), in_flight);
+            let received = self.link.receive(&self.input[..seen], clock());
             match received.map_err(|refusal| format!("received what is {refusal:?}"))? {
                 Received::Wait(_) => return Ok(got),
                 Received::Packet {
@@ -132,17 +127,6 @@ impl OtherEnd {
                 }
             }
         }
-        Ok(got)
-    }
-
-    /// What its driver counts, and says with each call.
-    pub fn in_flight(&self) -> u32 {
-        self.asked.len() as u32
-    }
-
-    /// A client that got a fin with nothing in flight: it hangs up.
-    pub fn is_closed(&self) -> bool {
-        self.link.is_closed()
     }
 
     /// Moves what came to the input, clear.
@@ -208,9 +192,6 @@ impl OtherEnd {
                 if message::body(&message).as_deref() != Ok(body) {
                     return Err(format!("received {message:?} in another form"));
                 }
-                if let Message::Result(number, _) = message {
-                    self.asked.remove(&number);
-                }
                 return Ok(Some(Got::Message(message.hold(<[u8]>::to_vec))));
             }
         }
@@ -223,7 +204,7 @@ impl OtherEnd {
         let outgoing = Outgoing::Nonce(clock(), random(), [0; 32]);
         let mut packet = self.made(outgoing);
         if let Some(link) = &mut self.if_ciphered {
-            let _ = link.send(&outgoing, &mut [0; 128], 0);
+            let _ = link.send(&outgoing, &mut [0; 128]);
         }
         if let Some(version) = self.version {
             packet[NONCE_VERSION] = version;
@@ -243,11 +224,6 @@ impl OtherEnd {
     pub fn send(&mut self, outgoing: Outgoing) {
         let packet = self.made(outgoing);
         self.output.extend(packet);
-        match outgoing {
-            Outgoing::Message(Message::Invoke(invoke)) => drop(self.asked.insert(invoke.number)),
-            Outgoing::Message(Message::Cancel(number)) => drop(self.asked.remove(&number)),
-            _ => {}
-        }
     }
 
     pub fn send_message(&mut self, message: Message<&[u8]>) {
@@ -278,9 +254,6 @@ impl OtherEnd {
     /// Adds the words that a cipher would need behind the output. Where there is
     /// one, they are counted here, whatever the link says of raw packets.
     pub fn flush(&mut self) {
-        if self.is_closed() {
-            return;
-        }
         if self.is_ciphered() {
             let past = (self.output.len() - self.nonce) % BLOCK;
             let words = (BLOCK - past) % BLOCK / 4;
@@ -298,8 +271,8 @@ impl OtherEnd {
     /// the relay does not look at that.)
     pub fn send_raw(&mut self, packet_type: u32, body: &[u8]) {
         let unsent = match self.side {
-            Side::Client => Message::Cancel(1),
-            Side::Server => Message::Result(1, Outcome::Payload(&[][..])),
+            Side::Client => Message::ClientFin,
+            Side::Server => Message::ServerFin,
         };
         let number = read_u32(&self.made(Outgoing::Message(unsent)), 4);
         let (_, checksum) = self.link.expected();
@@ -316,7 +289,7 @@ impl OtherEnd {
             _ => 0,
         };
         let mut packet = vec![0; payload + 128];
-        let size = self.link.send(&outgoing, &mut packet, self.in_flight());
+        let size = self.link.send(&outgoing, &mut packet);
         packet.truncate(size.expect("a packet that may be sent now"));
         packet
     }

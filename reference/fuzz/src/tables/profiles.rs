@@ -10,10 +10,9 @@ pub struct Profile {
     pub cancels: u64,
     pub drops: u64,
     pub run_outs: u64,
-    pub finishes: u64,
     /// Of a hundred asks, those with a time; the others are old ones.
     pub timed: u64,
-    /// With fewer in flight, nearly every call is an ask.
+    /// With fewer in flight, every call is an ask.
     pub fewest: usize,
 }
 
@@ -28,7 +27,6 @@ pub const PROFILES: [Profile; 6] = [
         cancels: 15,
         drops: 8,
         run_outs: 4,
-        finishes: 4,
         timed: 60,
         fewest: 0,
     },
@@ -40,7 +38,6 @@ pub const PROFILES: [Profile; 6] = [
         cancels: 8,
         drops: 1,
         run_outs: 2,
-        finishes: 1,
         timed: 50,
         fewest: 0,
     },
@@ -52,7 +49,6 @@ pub const PROFILES: [Profile; 6] = [
         cancels: 5,
         drops: 1,
         run_outs: 2,
-        finishes: 2,
         timed: 40,
         fewest: 0,
     },
@@ -64,7 +60,6 @@ pub const PROFILES: [Profile; 6] = [
         cancels: 4,
         drops: 2,
         run_outs: 12,
-        finishes: 2,
         timed: 90,
         fewest: 0,
     },
@@ -76,7 +71,6 @@ pub const PROFILES: [Profile; 6] = [
         cancels: 15,
         drops: 2,
         run_outs: 0,
-        finishes: 2,
         timed: 30,
         fewest: 48,
     },
@@ -88,7 +82,6 @@ pub const PROFILES: [Profile; 6] = [
         cancels: 5,
         drops: 1,
         run_outs: 10,
-        finishes: 1,
         timed: 90,
         fewest: 40,
     },

@@ -46,7 +46,7 @@ fn their_nonce(encryption: u8, version: u8, time: u32, key_id: [u8; 4]) -> Vec<u
 fn judged(mut link: Link, packet: &[u8]) -> Result<bool, u8> {
     let before = link.state();
     assert!(!before.ciphered);
-    match link.receive(packet, TIME, 1) {
+    match link.receive(packet, TIME) {
         Ok(_) => Ok(link.state().ciphered),
         Err(refusal) => {
             let closed = State {
@@ -178,7 +178,7 @@ fn what_a_server_answers() {
         for version in 0..=3 {
             let mut server = keyed(Side::Server, setting);
             let packet = their_nonce(encryption, version, TIME, KEY_ID);
-            server.receive(&packet, TIME, 1).unwrap();
+            server.receive(&packet, TIME).unwrap();
             assert_eq!(written(&mut server), expected);
         }
     }
@@ -196,7 +196,7 @@ fn nine_pairs() {
         for (server, chosen) in CIPHERS.into_iter().zip(row) {
             let mut pair = keyed_pair(client, server);
             let nonce = sent(&mut pair.client, NONCE_OUT);
-            let taken = pair.server.receive(&nonce, TIME, 1).is_ok();
+            let taken = pair.server.receive(&nonce, TIME).is_ok();
             assert_eq!(taken, chosen.is_some());
             if let Some(chosen) = chosen {
                 assert!(!pair.client.state().ciphered);

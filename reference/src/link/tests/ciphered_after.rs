@@ -21,13 +21,10 @@ fn a_ciphered_link_is_padded_from_the_handshake_on() {
         assert_eq!(pair.server.flush(&mut buffer), Ok(4));
         let ping = sent(&mut pair.server, Outgoing::Ping(1));
         let bytes = [&[4, 0, 0, 0][..], &ping].concat();
-        let taken = pair.client.receive(&bytes, TIME, 1).unwrap();
+        let taken = pair.client.receive(&bytes, TIME).unwrap();
         assert!(matches!(taken, Received::Packet { consumed: 28, .. }));
         let words = [4, 0, 0, 0].repeat(4);
-        assert_eq!(
-            pair.client.receive(&words, TIME, 1),
-            Err(Refusal::FourthWord)
-        );
+        assert_eq!(pair.client.receive(&words, TIME), Err(Refusal::FourthWord));
         assert!(pair.client.state().ciphered);
     }
 }
@@ -64,7 +61,7 @@ fn a_link_gone_clear_is_not_padded() {
         for mut link in [pair.client, pair.server] {
             assert_eq!(link.flush(&mut []), Ok(0));
             assert_eq!(
-                link.receive(&[4, 0, 0, 0], TIME, 1),
+                link.receive(&[4, 0, 0, 0], TIME),
                 Err(Refusal::LengthTooShort)
             );
         }
@@ -109,17 +106,13 @@ fn a_conversation_under_the_cipher() {
     let key = [9; 32];
     let mut vectors = ([1; 16], [1; 16]);
     let mut buffer = [0; 200];
-    let mut size = pair.client.send(&HANDSHAKE_OUT, &mut buffer, 1).unwrap();
+    let mut size = pair.client.send(&HANDSHAKE_OUT, &mut buffer).unwrap();
     size += pair.client.flush(&mut buffer[size..]).unwrap();
     encipher(&key, &mut vectors.0, &mut buffer[..size]).unwrap();
-    assert!(pair
-        .server
-        .clone()
-        .receive(&buffer[..size], TIME, 1)
-        .is_err());
+    assert!(pair.server.clone().receive(&buffer[..size], TIME).is_err());
     decipher(&key, &mut vectors.1, &mut buffer[..size]).unwrap();
     assert_eq!(vectors.0, vectors.1);
-    let taken = pair.server.receive(&buffer[..size], TIME, 1).unwrap();
+    let taken = pair.server.receive(&buffer[..size], TIME).unwrap();
     assert!(matches!(taken, Received::Packet { consumed: 44, .. }));
     assert_eq!(buffer[44..size], [4, 0, 0, 0]);
 }

@@ -57,10 +57,7 @@ fn forged(link: &Link, words: usize, packet_type: u32, body: &[u8]) -> Vec<u8> {
 /// nothing else of it changes then.
 fn judged(mut link: Link, bytes: &[u8]) -> u8 {
     let before = link.state();
-    let number = link
-        .receive(bytes, TIME, 1)
-        .err()
-        .map_or(0, Refusal::number);
+    let number = link.receive(bytes, TIME).err().map_or(0, Refusal::number);
     assert_eq!(link.is_closed(), number != 0);
     if number != 0 {
         let closed = State {
@@ -68,7 +65,7 @@ fn judged(mut link: Link, bytes: &[u8]) -> u8 {
             ..before
         };
         assert_eq!(link.state(), closed);
-        assert_eq!(link.receive(bytes, TIME, 1), Err(Refusal::LinkClosed));
+        assert_eq!(link.receive(bytes, TIME), Err(Refusal::LinkClosed));
     }
     number
 }
@@ -85,7 +82,7 @@ fn waits_and_used_count_words_and_zeros() {
                 for n in 0..end {
                     let awaited = (4..=front + 4).step_by(4).find(|at| n < *at);
                     let awaited = awaited.unwrap_or(if n < front + 12 { front + 12 } else { end });
-                    let received = link.receive(&bytes[..n], TIME, 1);
+                    let received = link.receive(&bytes[..n], TIME);
                     assert_eq!(received, Ok(Received::Wait(awaited - n)), "{n} of {end}");
                 }
                 let expected = Received::Packet {
@@ -98,8 +95,8 @@ fn waits_and_used_count_words_and_zeros() {
                     clock: None,
                 };
                 let behind = [&bytes[..], &[9; 3]].concat();
-                assert_eq!(link.clone().receive(&behind, TIME, 1), Ok(expected));
-                assert_eq!(link.receive(&bytes, TIME, 1), Ok(expected));
+                assert_eq!(link.clone().receive(&behind, TIME), Ok(expected));
+                assert_eq!(link.receive(&bytes, TIME), Ok(expected));
             }
         }
     }
@@ -113,7 +110,7 @@ fn a_fourth_word_is_26_whatever_comes_behind() {
             assert_eq!(judged(open(side), &bytes), number);
         }
         let four = WORD.repeat(4);
-        let waits = open(side).receive(&four[..15], TIME, 1);
+        let waits = open(side).receive(&four[..15], TIME);
         assert_eq!(waits, Ok(Received::Wait(1)));
         assert_eq!(judged(open(side), &four), 26);
         assert_eq!(
@@ -164,7 +161,7 @@ fn a_nonce_has_no_zeros_and_a_handshake_has() {
         let mut body = nonce_body(2, TIME, [0; 16]);
         body.resize(size, 7);
         let nonce = packet::whole(packet::FIRST_NUMBER, NONCE, &body, CRC32);
-        let taken = server.receive(&nonce, TIME, 1).unwrap();
+        let taken = server.receive(&nonce, TIME).unwrap();
         assert!(matches!(taken, Received::Packet { consumed, .. } if consumed == 16 + size));
     }
     for side in SIDES {
@@ -173,7 +170,7 @@ fn a_nonce_has_no_zeros_and_a_handshake_has() {
             let body = vec![0; size];
             let packet = forged(&link, 0, HANDSHAKE, &body);
             for n in 16 + size..packet.len() {
-                let waits = link.clone().receive(&packet[..n], TIME, 1);
+                let waits = link.clone().receive(&packet[..n], TIME);
                 assert_eq!(waits, Ok(Received::Wait(packet.len() - n)));
             }
             assert_eq!(judged(link, &packet), 0);
@@ -229,7 +226,7 @@ fn checksum_and_zeros_are_judged_together() {
         bytes[4 + 20] ^= 1;
         bytes[4 + 21] = 1;
         for n in 4 + 21..bytes.len() {
-            let waits = link.receive(&bytes[..n], TIME, 1);
+            let waits = link.receive(&bytes[..n], TIME);
             assert_eq!(waits, Ok(Received::Wait(bytes.len() - n)));
         }
         assert_eq!(judged(link, &bytes), 6);
@@ -251,7 +248,7 @@ fn the_longest_packet_waits_for_its_zero() {
             let mut link = open(side);
             let mut front = forged(&link, words, ANY, &[])[..4 * words + 12].to_vec();
             front[4 * words..4 * words + 3].fill(255);
-            let waits = link.receive(&front, TIME, 1);
+            let waits = link.receive(&front, TIME);
             assert_eq!(waits, Ok(Received::Wait(16_777_216 - 12)));
         }
     }

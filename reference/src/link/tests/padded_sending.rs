@@ -35,7 +35,7 @@ fn the_size_and_16_count_the_zeros() {
             let mut client = padded_pair().open().client;
             let before = client.state();
             let mut buffer = vec![FILLING; room];
-            let sent = client.send(&invoke(&payload), &mut buffer, 1);
+            let sent = client.send(&invoke(&payload), &mut buffer);
             if room < size {
                 assert_eq!(sent, Err(Refusal::BufferTooSmall));
                 assert!(buffer.iter().all(|byte| *byte == FILLING));
@@ -146,7 +146,7 @@ fn a_closed_link_flushes_nothing() {
 fn only_what_we_write_is_counted() {
     let mut pair = padded_pair().open();
     pair.pass(Side::Server, Outgoing::Ping(4));
-    let refused = pair.client.send(&NONCE_OUT, &mut [0; 100], 1);
+    let refused = pair.client.send(&NONCE_OUT, &mut [0; 100]);
     assert_eq!(refused, Err(Refusal::TypeNotNow));
     assert_eq!(pair.client.state().since_handshake, 44);
     assert_eq!(flushed(&mut pair.client), 4);
@@ -160,7 +160,7 @@ fn padded_links_understand_each_other() {
         let payload = vec![b'x'; size];
         let mut buffer = [0; 100];
         let words = pair.client.flush(&mut buffer).unwrap();
-        let packet = pair.client.send(&invoke(&payload), &mut buffer[words..], 1);
+        let packet = pair.client.send(&invoke(&payload), &mut buffer[words..]);
         let bytes = &buffer[..words + packet.unwrap()];
         let expected = Received::Packet {
             packet_type: values::INVOKE,
@@ -171,7 +171,7 @@ fn padded_links_understand_each_other() {
             },
             clock: None,
         };
-        assert_eq!(pair.server.receive(bytes, TIME, 1), Ok(expected));
+        assert_eq!(pair.server.receive(bytes, TIME), Ok(expected));
     }
 }
 
@@ -181,9 +181,9 @@ fn the_longest_packet_has_a_zero_behind_it() {
     let mut client = padded_pair().open().client;
     let payload = vec![b'x'; 16_777_215 - 16 - 8];
     let mut buffer = vec![FILLING; 16_777_216];
-    let cut = client.send(&invoke(&payload), &mut buffer[1..], 1);
+    let cut = client.send(&invoke(&payload), &mut buffer[1..]);
     assert_eq!(cut, Err(Refusal::BufferTooSmall));
-    let sent = client.send(&invoke(&payload), &mut buffer, 1);
+    let sent = client.send(&invoke(&payload), &mut buffer);
     assert_eq!(sent, Ok(16_777_216));
     assert_eq!(buffer.last(), Some(&0));
     assert_eq!(flushed(&mut client), 4);

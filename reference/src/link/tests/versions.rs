@@ -39,10 +39,7 @@ impl Fields {
 /// The number of the refusal, or 0; only what is refused closes the link.
 fn judged(side: Side, lowest_version: u8, packet: &[u8]) -> u8 {
     let mut link = awaiting_nonce(side, lowest_version);
-    let number = link
-        .receive(packet, TIME, 1)
-        .err()
-        .map_or(0, Refusal::number);
+    let number = link.receive(packet, TIME).err().map_or(0, Refusal::number);
     assert_eq!(link.is_closed(), number != 0);
     number
 }
@@ -173,16 +170,16 @@ fn a_link_closed_by_24_answers_20() {
     for side in [Side::Client, Side::Server] {
         let mut link = awaiting_nonce(side, 2);
         let before = link.state();
-        let low = link.receive(&of_version(1).packet(), TIME, 1);
+        let low = link.receive(&of_version(1).packet(), TIME);
         assert_eq!(low, Err(Refusal::VersionTooLow));
         let closed = State {
             closed: true,
             ..before
         };
         assert_eq!(link.state(), closed);
-        let again = link.receive(&of_version(2).packet(), TIME, 1);
+        let again = link.receive(&of_version(2).packet(), TIME);
         assert_eq!(again, Err(Refusal::LinkClosed));
-        let sent = link.send(&NONCE_OUT, &mut [0; 100], 1);
+        let sent = link.send(&NONCE_OUT, &mut [0; 100]);
         assert_eq!(sent, Err(Refusal::LinkClosed));
         assert_eq!(link.state(), closed);
     }
@@ -193,9 +190,7 @@ fn a_server_never_writes_a_version_below_its_lowest() {
     for lowest in 0..=2 {
         for theirs in 0..=255 {
             let mut server = awaiting_nonce(Side::Server, lowest);
-            let taken = server
-                .receive(&of_version(theirs).packet(), TIME, 1)
-                .is_ok();
+            let taken = server.receive(&of_version(theirs).packet(), TIME).is_ok();
             assert_eq!(taken, theirs >= lowest);
             if taken {
                 let written = sent(&mut server, NONCE_OUT)[12 + 5];

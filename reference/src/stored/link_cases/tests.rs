@@ -1,12 +1,5 @@
-mod before_fins;
-
 use super::*;
 use crate::link::{nonce_body, packet};
-
-/// As it was when links did not heed fins.
-fn output_before_fins(records: &[u8]) -> Vec<u8> {
-    output_by(records, Link::forget_fins)
-}
 
 fn text() -> String {
     String::from_utf8(output(&input())).unwrap()
@@ -20,12 +13,12 @@ fn every_refusal_and_answer_occurs() {
         text.lines().filter(words).count()
     };
     let by_receive = (1..=10).chain([17, 20, 21, 22]);
-    for refusal in by_receive.chain([12, 15, 16, 19, 24, 25, 26, 28, 29, 30, 36]) {
+    for refusal in by_receive.chain([12, 15, 16, 19, 24, 25, 26, 30, 36]) {
         let part = format!("no {refusal} ");
         assert!(count(&part) >= 20, "{part}: {}", count(&part));
     }
     for part in [
-        "link ", "wait ", "packet ", "sent ", "flush ", "cipher ", "clear ", "count ",
+        "link ", "wait ", "packet ", "sent ", "flush ", "cipher ", "clear ",
     ] {
         assert!(count(part) >= 500, "{part}: {}", count(part));
     }
@@ -46,12 +39,6 @@ const PADDED_INPUT: (usize, u32) = (3_898_229, 0xDF50_539C);
 const PADDED_OUTPUT: (usize, u32) = (1_341_348, 0x457D_1A5C);
 const PADDED_LINES: usize = 72_486;
 
-/// And before fins were heeded. That their lines are others now in places is
-/// the subject of `before_fins`.
-const ZERO_TIMEOUTS_INPUT: (usize, u32) = (5_847_468, 0xCAB7_5D71);
-const ZERO_TIMEOUTS_OUTPUT: (usize, u32) = (1_976_151, 0x46E5_3DBF);
-const ZERO_TIMEOUTS_LINES: usize = 112_540;
-
 /// And before a timeout of 0 was none.
 const CIPHERED_INPUT: (usize, u32) = (5_818_610, 0x708D_D3A0);
 const CIPHERED_OUTPUT: (usize, u32) = (1_968_573, 0xA1BB_55DE);
@@ -60,10 +47,7 @@ const CIPHERED_LINES: usize = 112_162;
 #[test]
 fn the_base_stays_in_front() {
     let input = input();
-    for (bytes, (size, sum)) in [
-        (&input, BASE_INPUT),
-        (&output_before_fins(&input), BASE_OUTPUT),
-    ] {
+    for (bytes, (size, sum)) in [(&input, BASE_INPUT), (&output(&input), BASE_OUTPUT)] {
         assert_eq!(CRC32.of(&bytes[..size]), sum);
     }
     assert_eq!(input[BASE_INPUT.0], SET_UP);
@@ -71,7 +55,7 @@ fn the_base_stays_in_front() {
 
 #[test]
 fn lowest_versions_stay_behind_the_base() {
-    let (input, output) = (input(), output_before_fins(&input()));
+    let (input, output) = (input(), output(&input()));
     for (bytes, (size, sum)) in [(&input, VERSIONS_INPUT), (&output, VERSIONS_OUTPUT)] {
         assert_eq!(CRC32.of(&bytes[..size]), sum);
     }
@@ -83,7 +67,7 @@ fn lowest_versions_stay_behind_the_base() {
 
 #[test]
 fn padded_links_stay_behind_lowest_versions() {
-    let (input, output) = (input(), output_before_fins(&input()));
+    let (input, output) = (input(), output(&input()));
     for (bytes, (size, sum)) in [(&input, PADDED_INPUT), (&output, PADDED_OUTPUT)] {
         assert_eq!(CRC32.of(&bytes[..size]), sum);
     }
@@ -96,47 +80,15 @@ fn padded_links_stay_behind_lowest_versions() {
 
 #[test]
 fn ciphered_links_stay_behind_padded_ones() {
-    let (input, output) = (input(), output_before_fins(&input()));
+    let (input, output) = (input(), output(&input()));
     for (bytes, (size, sum)) in [(&input, CIPHERED_INPUT), (&output, CIPHERED_OUTPUT)] {
         assert_eq!(CRC32.of(&bytes[..size]), sum);
     }
     assert_eq!(input[CIPHERED_INPUT.0], NEW);
     let lines = |bytes: &[u8]| bytes.iter().filter(|byte| **byte == b'\n').count();
     assert_eq!(lines(&output[..CIPHERED_OUTPUT.0]), CIPHERED_LINES);
-    let new = lines(&output[CIPHERED_OUTPUT.0..ZERO_TIMEOUTS_OUTPUT.0]);
+    let new = lines(&output[CIPHERED_OUTPUT.0..]);
     assert!((100..=400).contains(&new), "{new}");
-}
-
-#[test]
-fn timeouts_of_zero_stay_behind_ciphered_links() {
-    let (input, before) = (input(), output_before_fins(&input()));
-    for (bytes, (size, sum)) in [
-        (&input, ZERO_TIMEOUTS_INPUT),
-        (&before, ZERO_TIMEOUTS_OUTPUT),
-    ] {
-        assert_eq!(CRC32.of(&bytes[..size]), sum);
-    }
-    assert_eq!(input[ZERO_TIMEOUTS_INPUT.0], NEW);
-    let lines = |bytes: &[u8]| bytes.iter().filter(|byte| **byte == b'\n').count();
-    assert_eq!(
-        lines(&before[..ZERO_TIMEOUTS_OUTPUT.0]),
-        ZERO_TIMEOUTS_LINES
-    );
-    let new = lines(&output(&input)) - ZERO_TIMEOUTS_LINES;
-    assert!((20_000..=40_000).contains(&new), "{new}");
-}
-
-/// The records of counts, byte by byte: a count holds for the newest link from
-/// there on, a refused set-up leaves it, and a new link has 1.
-#[test]
-fn the_records_of_a_count() {
-    let count = |count: u8| [COUNT, count, 0, 0, 0];
-    let refused = [SET_UP, 0, 0, 3, 0, 0, 0, 0, 0];
-    let closing = [RECEIVE, 0, 0, 0, 0, 4, 0, 0, 0, 1, 0, 0, 0];
-    let server = [NEW, 1, 0];
-    let records = [&server[..], &count(0), &refused, &closing, &count(255)];
-    let lines = String::from_utf8(output(&records.concat())).unwrap();
-    assert_eq!(lines, "link\ncount\nno 30\nno 1 closed\ncount closed\n");
 }
 
 const KEY: [u8; 32] = *b"KEY! and behind it whatever else";
@@ -219,13 +171,12 @@ fn a_refused_set_up_leaves_the_newest_link() {
 fn lines_of_closed_links_are_refusals_or_tell() {
     let text = text();
     for line in text.lines().filter(|line| line.ends_with(" closed")) {
-        let told = ["cipher closed", "clear closed", "count closed"].contains(&line);
-        let fin = line.starts_with("packet a8ddbc46 ");
-        assert!(told || fin || line.starts_with("no "), "{line}");
+        let told = ["cipher closed", "clear closed"].contains(&line);
+        assert!(told || line.starts_with("no "), "{line}");
     }
 }
 
 #[test]
 fn within_the_agreed_size() {
-    assert!(input().len() <= 7_300_000, "{}", input().len());
+    assert!(input().len() <= 6_800_000, "{}", input().len());
 }

@@ -48,21 +48,10 @@ impl Talk {
             time: TIME,
             link: link(ours),
             peer: link(theirs),
-            count: 1,
-            peer_count: 1,
-            heeds_fins: false,
             words: Vec::new(),
             opened: 0,
             point: b"",
             records: record,
-        }
-    }
-
-    /// From here on both ends heed fins, as document 02, A6, wants it.
-    pub fn with_fins(self) -> Talk {
-        Talk {
-            heeds_fins: true,
-            ..self
         }
     }
 

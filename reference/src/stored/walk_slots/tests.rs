@@ -49,7 +49,6 @@ impl Slots {
             Event::Cancel(peer, number) => vec![self.take(|t| t.front == (peer, number))],
             Event::Gone(side, _) => self.take_listed(lines, |t| side.of(t.publisher, t.front)),
             Event::AskBy(..) | Event::RunOut(_) => unreachable!("no times in these runs"),
-            Event::Finish(_) => unreachable!("none is finishing in these runs"),
         }
     }
 
@@ -89,7 +88,6 @@ fn way(event: Event) -> usize {
     match event {
         Event::Ask(..) | Event::AskBy(..) => unreachable!("an ask frees nothing"),
         Event::RunOut(_) => unreachable!("no times in these runs"),
-        Event::Finish(_) => unreachable!("none is finishing in these runs"),
         Event::Reply(..) => 0,
         Event::Cancel(..) => 1,
         Event::Gone(Side::Front, _) => 2,

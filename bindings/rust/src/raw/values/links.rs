@@ -15,8 +15,6 @@ pub(super) const TALKING: Link = Link {
     awaits: true,
     owes: true,
     ciphered: false,
-    ourfin: false,
-    theirfin: false,
     keyid: 0x99aa_bbcc,
     sends: 0x1122_3344,
     gets: 0x5566_7788,
@@ -164,8 +162,7 @@ fn a_part_is_where_the_arrival_says_if_it_fits() {
 fn a_clock_difference_has_a_sign() {
     let clock = |theirs, time| {
         let body = nonce(2, theirs);
-        let moment = Moment { time, inflight: 5 };
-        unsafe { relay_clock_difference(body.as_ptr(), body.len(), moment) }
+        unsafe { relay_clock_difference(body.as_ptr(), body.len(), Moment { time }) }
     };
     let near = |difference| Clock {
         near: true,

@@ -37,8 +37,6 @@ fn a_fresh_link_keeps_its_settings() {
             awaits: false,
             owes: false,
             ciphered: false,
-            ourfin: false,
-            theirfin: false,
             keyid: 0,
             sends: FIRST_PACKET,
             gets: FIRST_PACKET,

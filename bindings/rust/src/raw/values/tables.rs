@@ -1,8 +1,7 @@
-//! Table, Asked, Replied, Cancelled, Dropped, LoadAnswer.
+//! Table, Asked, Replied, Cancelled, Dropped.
 
 mod any_contents;
 mod defined;
-mod finishing;
 mod garbage;
 mod gone;
 mod places;
@@ -26,7 +25,7 @@ const PUBLISHER: bool = true;
 const EMPTY: Table = Table {
     masks: [0; 9],
     numbers: [0; 136],
-    places: [0; 136],
+    places: [0; 128],
     order: [0; 64],
     times: [0; 65],
 };
@@ -104,12 +103,6 @@ fn a_fresh_table() {
     assert_eq!(used.numbers[..128], full().numbers[..128]);
     assert_eq!(used.numbers[128..], [FIRST; 8]);
     assert_eq!((used.places, used.order), (full().places, full().order));
-    let mut marked = full();
-    marked.places[128..].fill(255);
-    assert_eq!(relay_fresh(&mut marked, PublisherNumber(0)), 30);
-    assert_eq!(marked.places[128..], [255; 8]);
-    assert_eq!(relay_fresh(&mut marked, PublisherNumber(FIRST)), 0);
-    assert_eq!(marked.places, full().places);
     assert_eq!(used.times[..64], full().times[..64]);
     assert_eq!(used.times[64], 0);
 }

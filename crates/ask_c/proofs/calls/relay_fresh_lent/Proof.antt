@@ -13,7 +13,7 @@ started-refusal-requires : tie.Need-started-refusal-requires
 started-refusal-requires c κs = search rules
 
 returns : tie.Need-returns
-returns c = (c.started-refusal.ensures ∙ ap started_refusal c.before.fresh.ensures.0, c.before.fresh.ensures.1, c.before.fresh.ensures.2, c.before.fresh.ensures.3, c.before.fresh.ensures.4)
+returns c = (c.started-refusal.ensures ∙ ap started_refusal c.before.fresh.ensures.0, c.before.fresh.ensures.1, c.before.fresh.ensures.2, c.before.fresh.ensures.3)
 
 pub relay-fresh-lent-spec : {M : Type 1} → statement M
 relay-fresh-lent-spec = tie.close (tie.spec fresh-requires started-refusal-requires returns)

@@ -23,8 +23,8 @@ same_length c = search rules
 returns : tie.Need-returns
 returns c =
     let b = c.before.before in
-    let a = b.before.before.before.before.before.before.args in
-    let p = b.before.before.before.before.before.peer-of.ensures in
+    let a = b.before.before.before.before.before.args in
+    let p = b.before.before.before.before.peer-of.ensures in
     λ ts. let t : Table = table_of a.masks.now a.numbers.now a.places.now a.order.now ts in
     let e = b.gone.ensures ts ∙ ap (λ (q : Peer). gone_of t q a.out.now) p in (
       c.drop-fields.ensures ∙ ap (λ (x : Dropped). drop_fields x.answer) e,

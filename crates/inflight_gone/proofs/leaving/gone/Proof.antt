@@ -1,8 +1,8 @@
 -- A gone peer: the slots of its requests.
 -- Assumes nothing.
-use mathlib.Core.Path.{sym, ◌∙◌}
-use Rattle.inflight.specs.Tables.{Table, table_of, ends_at, gone_of}
-use Rattle.inflight_gone.proofs.LeavingLaws.{gone-eq}
+use mathlib.Core.Path.{◌≡◌, sym, ap, ◌∙◌}
+use Prim.Native.Nat.{ℕ}
+use Rattle.inflight.specs.Tables.{Table, table_of, drop_of, slots_of, ends_at, other_at, gone_of}
 use borrow.Author.Rules.{rules}
 use Rattle.inflight_gone.proofs.leaving.gone.Statement.{statement}
 use Rattle.inflight_gone.proofs.leaving.gone.Tie as tie
@@ -15,7 +15,7 @@ unfolding gone_of
 returns c = λ ts. rw (sym c.before.no-peer.ensures ∙ c.if1.true)
 
 peer-slots-requires : tie.Need-peer-slots-requires
-peer-slots-requires c κs = sym c.before.before.before.no-peer.ensures ∙ c.before.before.if1.false
+peer-slots-requires c κs = sym c.before.before.no-peer.ensures ∙ c.before.if1.false
 
 to-publishers-requires : tie.Need-to-publishers-requires
 to-publishers-requires c κs = search rules
@@ -23,23 +23,22 @@ to-publishers-requires c κs = search rules
 drop-slots-requires : tie.Need-drop-slots-requires
 drop-slots-requires c κs = search rules
 
-unmark-requires : tie.Need-unmark-requires
-unmark-requires c κs =
-    let n = c.before.before.before.before.before.before.before.before.before.before.before in
-    sym n.before.no-peer.ensures ∙ n.if1.false
-
 same_length : tie.Need-same-length
 same_length c = search rules
 
 returns-2 : tie.Need-returns-2
+unfolding gone_of
 returns-2 c =
-    let d = c.before.before.before in
-    let p = d.before.before.before.before.before in
-    let n = p.before.before.before.before in
-    let a = n.before.before.args in
+    let b = c.before.before.before.before.before in
+    let a = b.before.before.before.before.before.args in
     λ ts. let t : Table = table_of a.masks.now a.numbers.now a.places.now a.order.now ts in
-    let range = sym n.before.no-peer.ensures ∙ n.if1.false in
-    gone-eq t a.peer a.out.now p.before.peer-slots.result (ends_at p.to-publishers.result) _ _ range p.before.peer-slots.ensures p.to-publishers.ensures (d.drop-slots.ensures ts) c.unmark.ensures
+    let s : ℕ = slots_of a.masks.now a.places.now a.peer in
+    let g : b.before.peer-slots.result ≡ s = b.before.peer-slots.ensures in
+    let o : ends_at b.to-publishers.result ≡ other_at a.peer = b.to-publishers.ensures in
+    rw (sym b.before.before.before.before.no-peer.ensures ∙ b.before.before.before.if1.false)
+    (c.before.drop-slots.ensures ts
+    ∙ ap (λ (x : ℕ). drop_of t x (ends_at b.to-publishers.result) a.out.now) g
+    ∙ ap (λ (i : ℕ). drop_of t s i a.out.now) o)
 
 pub gone-spec : {M : Type 1} → statement M
 gone-spec =
@@ -50,6 +49,5 @@ gone-spec =
     peer-slots-requires
     to-publishers-requires
     drop-slots-requires
-    unmark-requires
     same_length
     returns-2)

@@ -39,22 +39,12 @@ returns-5 : tie.Need-returns-5
 unfolding ask_refusal_of
 returns-5 c = rw (lt-leb _ _ c.before.before.before.before.before.before.before.before.if1.false, lt-leb _ _ c.before.before.before.before.before.before.before.if2.false, sym c.before.before.before.before.before.before.no-time.ensures ∙ c.before.before.before.before.before.if3.false, sym c.before.before.before.before.same-front.ensures ∙ c.before.before.before.if4.false, ne_eqb _ 64 (λ q. c.if5.true (c.before.find-front.ensures ∙ q)))
 
-add-if6 : tie.Need-overflow-add-if6
-add-if6 c = search rules
-
-element-copy-out-if6 : tie.Need-element-copy-out-if6
-element-copy-out-if6 c = search rules
-
-returns-6 : tie.Need-returns-6
-unfolding ask_refusal_of
-returns-6 c = rw (lt-leb _ _ c.before.before.before.before.before.before.before.before.before.before.if1.false, lt-leb _ _ c.before.before.before.before.before.before.before.before.before.if2.false, sym c.before.before.before.before.before.before.before.before.no-time.ensures ∙ c.before.before.before.before.before.before.before.if3.false, sym c.before.before.before.before.before.before.same-front.ensures ∙ c.before.before.before.before.before.if4.false, eq-eqb _ 64 (sym c.before.before.before.find-front.ensures ∙ c.before.before.if5.false), ne_eqb _ 0 c.if6.true)
-
 load-refusal-requires : tie.Need-load-refusal-requires
 load-refusal-requires c κs = search rules
 
-returns-7 : tie.Need-returns-7
+returns-6 : tie.Need-returns-6
 unfolding ask_refusal_of
-returns-7 c = rw (lt-leb _ _ c.before.before.before.before.before.before.before.before.before.before.before.if1.false, lt-leb _ _ c.before.before.before.before.before.before.before.before.before.before.if2.false, sym c.before.before.before.before.before.before.before.before.before.no-time.ensures ∙ c.before.before.before.before.before.before.before.before.if3.false, sym c.before.before.before.before.before.before.before.same-front.ensures ∙ c.before.before.before.before.before.before.if4.false, eq-eqb _ 64 (sym c.before.before.before.before.find-front.ensures ∙ c.before.before.before.if5.false), eq-eqb _ 0 c.before.if6.false) c.load-refusal.ensures
+returns-6 c = rw (lt-leb _ _ c.before.before.before.before.before.before.before.before.before.if1.false, lt-leb _ _ c.before.before.before.before.before.before.before.before.if2.false, sym c.before.before.before.before.before.before.before.no-time.ensures ∙ c.before.before.before.before.before.before.if3.false, sym c.before.before.before.before.before.same-front.ensures ∙ c.before.before.before.before.if4.false, eq-eqb _ 64 (sym c.before.before.find-front.ensures ∙ c.before.if5.false)) c.load-refusal.ensures
 
 pub ask-refusal-spec : {M : Type 1} → statement M
 ask-refusal-spec =
@@ -69,8 +59,5 @@ ask-refusal-spec =
     element-copy-out-find-front
     find-front-requires
     returns-5
-    add-if6
-    element-copy-out-if6
-    returns-6
     load-refusal-requires
-    returns-7)
+    returns-6)

@@ -47,11 +47,10 @@ returns-5 : tie.Need-returns-5
 unfolding body_refusal
 returns-5 c =
     simp (
-      ne_eqb _ _ c.before.before.before.before.if1.false,
-      ne_eqb _ _ c.before.before.before.if2.false,
-      ne_eqb _ _ c.before.before.if3.false,
-      ne_eqb _ _ c.before.if4.false,
-      c.fin-refusal.ensures,
+      ne_eqb _ _ c.before.before.before.if1.false,
+      ne_eqb _ _ c.before.before.if2.false,
+      ne_eqb _ _ c.before.if3.false,
+      ne_eqb _ _ c.if4.false,
     )
 
 pub body-refusal-spec : {M : Type 1} → statement M
@@ -66,5 +65,4 @@ body-refusal-spec =
     returns-3
     (λ c κs. search rules)
     returns-4
-    (λ c κs. search rules)
     returns-5)

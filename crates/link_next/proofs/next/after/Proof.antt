@@ -8,14 +8,12 @@ returns : tie.Need-returns
 unfolding after_of
 returns c =
     simp (
-      ← c.before.before.before.before.before.before.before.before.before.Closed-after.ensures,
-      ← c.before.before.before.before.before.before.before.before.agreed-after.ensures,
-      ← c.before.before.before.before.before.before.before.version-after.ensures,
-      ← c.before.before.before.before.before.before.stage-after.ensures,
-      ← c.before.before.before.before.before.awaits-after.ensures,
-      ← c.before.before.before.before.owes-after.ensures,
-      ← c.before.before.before.ciphered-after.ensures,
-      ← c.before.before.their-fin-after.ensures,
+      ← c.before.before.before.before.before.before.before.agreed-after.ensures,
+      ← c.before.before.before.before.before.before.version-after.ensures,
+      ← c.before.before.before.before.before.stage-after.ensures,
+      ← c.before.before.before.before.awaits-after.ensures,
+      ← c.before.before.before.owes-after.ensures,
+      ← c.before.before.ciphered-after.ensures,
       ← c.before.wrapping-add-u32.ensures,
       c.owed-after.ensures,
     )
@@ -24,8 +22,6 @@ pub after-spec : {M : Type 1} → statement M
 after-spec =
     tie.close
     (tie.spec
-    (λ c κs. search rules)
-    (λ c κs. search rules)
     (λ c κs. search rules)
     (λ c κs. search rules)
     (λ c κs. search rules)

@@ -58,35 +58,21 @@ returns-6 c =
       ne_eqb _ _ c.before.before.before.if3.false,
       ne_eqb _ _ c.before.before.if4.false,
       ne_eqb _ _ c.before.if5.false,
-      eq-eqb _ _ c.if6.true,
+      lt-leb _ _ c.if6.true,
     )
 
 returns-7 : tie.Need-returns-7
 unfolding closes_of
 returns-7 c =
-    simp (
-      ne_eqb _ _ c.before.before.before.before.before.before.if1.false,
-      ne_eqb _ _ c.before.before.before.before.before.if2.false,
-      ne_eqb _ _ c.before.before.before.before.if3.false,
-      ne_eqb _ _ c.before.before.before.if4.false,
-      ne_eqb _ _ c.before.before.if5.false,
-      ne_eqb _ _ c.before.if6.false,
-      lt-leb _ _ c.if7.true,
-    )
-
-returns-8 : tie.Need-returns-8
-unfolding closes_of
-returns-8 c =
     rw (
-      ne_eqb _ _ c.before.before.before.before.before.before.if1.false,
-      ne_eqb _ _ c.before.before.before.before.before.if2.false,
-      ne_eqb _ _ c.before.before.before.before.if3.false,
-      ne_eqb _ _ c.before.before.before.if4.false,
-      ne_eqb _ _ c.before.before.if5.false,
-      ne_eqb _ _ c.before.if6.false,
-      le-leb _ _ c.if7.false,
+      ne_eqb _ _ c.before.before.before.before.before.if1.false,
+      ne_eqb _ _ c.before.before.before.before.if2.false,
+      ne_eqb _ _ c.before.before.before.if3.false,
+      ne_eqb _ _ c.before.before.if4.false,
+      ne_eqb _ _ c.before.if5.false,
+      le-leb _ _ c.if6.false,
     )
 
 pub closes-spec : {M : Type 1} → statement M
 closes-spec =
-    tie.close (tie.spec returns returns-2 returns-3 returns-4 returns-5 returns-6 returns-7 returns-8)
+    tie.close (tie.spec returns returns-2 returns-3 returns-4 returns-5 returns-6 returns-7)

@@ -29,26 +29,11 @@ returns-3 : tie.Need-returns-3
 unfolding early_refusal
 returns-3 c =
     simp (
-      ← c.before.before.before.before.before.before.kind-of.ensures,
-      ← c.before.before.before.before.before.send-refusal.ensures,
-      eq-eqb _ _ c.before.before.before.before.if1.false,
-      ← c.before.before.before.wrong-way.ensures,
-      c.before.before.if2.false,
-      ← c.before.finished.ensures,
-      c.if3.true,
-    )
-
-returns-4 : tie.Need-returns-4
-unfolding early_refusal
-returns-4 c =
-    simp (
-      ← c.before.before.before.before.before.before.kind-of.ensures,
-      ← c.before.before.before.before.before.send-refusal.ensures,
-      eq-eqb _ _ c.before.before.before.before.if1.false,
-      ← c.before.before.before.wrong-way.ensures,
-      c.before.before.if2.false,
-      ← c.before.finished.ensures,
-      c.if3.false,
+      ← c.before.before.before.before.kind-of.ensures,
+      ← c.before.before.before.send-refusal.ensures,
+      eq-eqb _ _ c.before.before.if1.false,
+      ← c.before.wrong-way.ensures,
+      c.if2.false,
     )
 
 pub early-refusal-spec : {M : Type 1} → statement M
@@ -60,6 +45,4 @@ early-refusal-spec =
     returns
     (λ c κs. search rules)
     returns-2
-    (λ c κs. search rules)
-    returns-3
-    returns-4)
+    returns-3)

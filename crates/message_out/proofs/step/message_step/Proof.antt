@@ -8,7 +8,7 @@ use Rattle.message_out.proofs.step.message_step.Statement.{statement}
 use Rattle.message_out.proofs.step.message_step.Tie as tie
 
 returns : tie.Need-returns
-returns c = early-step _ _ _ _ _ c.before.early-refusal.ensures c.if1.true
+returns c = early-step _ _ _ _ c.before.early-refusal.ensures c.if1.true
 
 add-length : tie.Need-overflow-add-length
 add-length c =
@@ -24,13 +24,13 @@ add-size c =
 returns-2 : tie.Need-returns-2
 returns-2 c =
     let d = c.before.before.before.before.before in
-    refused-step _ _ _ _ _ d.before.before.before.early-refusal.ensures d.before.before.if1.false d.place-body.ensures.0 d.place-body.ensures.1 c.before.k.given.1
+    refused-step _ _ _ _ d.before.before.before.early-refusal.ensures d.before.before.if1.false d.place-body.ensures.0 d.place-body.ensures.1 c.before.k.given.1
 
 returns-3 : tie.Need-returns-3
 returns-3 c =
     let k = c.before.before.before.before.before.before in
     let d = k.before.before.before.before.before.before in
-    written_step _ _ _ _ _ d.before.before.before.early-refusal.ensures d.before.before.if1.false d.place-body.ensures.0 d.place-body.ensures.1
+    written_step _ _ _ _ d.before.before.before.early-refusal.ensures d.before.before.if1.false d.place-body.ensures.0 d.place-body.ensures.1
     k.before.before.len.given.1 k.kind-of.ensures (size_is _ _ c.before.before.before.before.before.tail.ensures) c.before.before.before.seal.ensures c.sent.ensures
 
 pub message-step-spec : {M : Type 1} → statement M

@@ -8,11 +8,10 @@ returns : tie.Need-returns
 unfolding sent_of
 returns c =
     simp (
-      ← c.before.before.before.before.before.before.stage-after.ensures,
-      ← c.before.before.before.before.before.phase-after.ensures,
-      ← c.before.before.before.before.awaits-sent.ensures,
-      ← c.before.before.before.owes-sent.ensures,
-      ← c.before.before.our-fin-sent.ensures,
+      ← c.before.before.before.before.before.stage-after.ensures,
+      ← c.before.before.before.before.phase-after.ensures,
+      ← c.before.before.before.awaits-sent.ensures,
+      ← c.before.before.owes-sent.ensures,
       ← c.before.wrapping-add-u32.ensures,
       c.awaited-sent.ensures,
     )
@@ -21,7 +20,6 @@ pub sent-spec : {M : Type 1} → statement M
 sent-spec =
     tie.close
     (tie.spec
-    (λ c κs. search rules)
     (λ c κs. search rules)
     (λ c κs. search rules)
     (λ c κs. search rules)

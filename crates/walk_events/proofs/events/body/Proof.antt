@@ -111,20 +111,6 @@ returns-7 : tie.Need-returns-7
 unfolding body_of
 returns-7 c =
     simp (
-      ne_eqb _ _ c.before.before.before.before.before.before.before.if1.false,
-      ne_eqb _ _ c.before.before.before.before.before.before.if2.false,
-      ne_eqb _ _ c.before.before.before.before.before.if3.false,
-      ne_eqb _ _ c.before.before.before.before.if4.false,
-      ne_eqb _ _ c.before.before.before.if5.false,
-      ne_eqb _ _ c.before.before.if6.false,
-      eq-eqb _ _ c.before.if7.true,
-      c.u64-at2.ensures,
-    )
-
-returns-8 : tie.Need-returns-8
-unfolding body_of
-returns-8 c =
-    simp (
       ← c.before.before.before.before.before.before.before.byte_at.ensures,
       ne_eqb _ _ c.before.before.before.before.before.before.if1.false,
       ne_eqb _ _ c.before.before.before.before.before.if2.false,
@@ -132,7 +118,7 @@ returns-8 c =
       ne_eqb _ _ c.before.before.before.if4.false,
       ne_eqb _ _ c.before.before.if5.false,
       ne_eqb _ _ c.before.if6.false,
-      ne_eqb _ _ c.if7.false,
+      c.u64-at2.ensures,
     )
 
 pub body-spec : {M : Type 1} → statement M
@@ -155,5 +141,4 @@ body-spec =
     u32-at-requires
     returns-6
     u64-at-requires-2
-    returns-7
-    returns-8)
+    returns-7)

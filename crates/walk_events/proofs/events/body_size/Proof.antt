@@ -78,31 +78,16 @@ returns-8 : tie.Need-returns-8
 unfolding body_size
 returns-8 c =
     simp (
-      ne_eqb _ _ c.before.before.before.before.before.before.before.if1.false,
-      ne_eqb _ _ c.before.before.before.before.before.before.if2.false,
-      ne_eqb _ _ c.before.before.before.before.before.if3.false,
-      ne_eqb _ _ c.before.before.before.before.if4.false,
-      ne_eqb _ _ c.before.before.before.if5.false,
-      ne_eqb _ _ c.before.before.if6.false,
-      ne_eqb _ _ c.before.if7.false,
-      eq-eqb _ _ c.if8.true,
-    )
-
-returns-9 : tie.Need-returns-9
-unfolding body_size
-returns-9 c =
-    simp (
-      ne_eqb _ _ c.before.before.before.before.before.before.before.if1.false,
-      ne_eqb _ _ c.before.before.before.before.before.before.if2.false,
-      ne_eqb _ _ c.before.before.before.before.before.if3.false,
-      ne_eqb _ _ c.before.before.before.before.if4.false,
-      ne_eqb _ _ c.before.before.before.if5.false,
-      ne_eqb _ _ c.before.before.if6.false,
-      ne_eqb _ _ c.before.if7.false,
-      ne_eqb _ _ c.if8.false,
+      ne_eqb _ _ c.before.before.before.before.before.before.if1.false,
+      ne_eqb _ _ c.before.before.before.before.before.if2.false,
+      ne_eqb _ _ c.before.before.before.before.if3.false,
+      ne_eqb _ _ c.before.before.before.if4.false,
+      ne_eqb _ _ c.before.before.if5.false,
+      ne_eqb _ _ c.before.if6.false,
+      ne_eqb _ _ c.if7.false,
     )
 
 pub body-size-spec : {M : Type 1} → statement M
 body-size-spec =
     tie.close
-    (tie.spec returns returns-2 returns-3 returns-4 returns-5 returns-6 returns-7 returns-8 returns-9)
+    (tie.spec returns returns-2 returns-3 returns-4 returns-5 returns-6 returns-7 returns-8)

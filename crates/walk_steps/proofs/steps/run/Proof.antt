@@ -6,7 +6,7 @@ use lib.IntN.{ℤ, pos}
 use lib.ListN.{replicate}
 use borrow.Author.Rules.{rules}
 use borrow.Author.Tests.{not-false}
-use Rattle.inflight.specs.Tables.{table_of, fresh_of, fresh_masks, fresh_numbers, fresh_places, fresh_times}
+use Rattle.inflight.specs.Tables.{table_of, fresh_of, fresh_masks, fresh_numbers, fresh_times}
 use Rattle.walk_progress.specs.declared.Progress.{Progress}
 use Rattle.walk_progress.specs.Start.{one, start_of}
 use Rattle.walk_steps.specs.Runs.{Run}
@@ -22,20 +22,19 @@ abbrev decreases-loop : tie.decreases-loop
 decreases-loop masks₀ numbers₀ places₀ order₀ times₀ events₀ out₀ p₀ turns₀ masks numbers places order times events out p turns = turns
 
 -- the zeroed arrays, started at 1
-begun : {p : Progress} {ms : List ℕ} {ns : List ℤ} {ps ts : List ℕ} (events : List ℕ) → ms ≡ fresh_masks one (replicate 9 0)
-    → ns ≡ fresh_numbers one (replicate 136 (pos 0)) → ps ≡ fresh_places one (replicate 136 0) → ts ≡ fresh_times one (replicate 65 0)
-    → p ≡ start_of
-    → Run (table_of ms ns ps (replicate 64 0) ts) p events []
+begun : {p : Progress} {ms : List ℕ} {ns : List ℤ} {ts : List ℕ} (events : List ℕ) → ms ≡ fresh_masks one (replicate 9 0)
+    → ns ≡ fresh_numbers one (replicate 136 (pos 0)) → ts ≡ fresh_times one (replicate 65 0) → p ≡ start_of
+    → Run (table_of ms ns (replicate 128 0) (replicate 64 0) ts) p events []
 unfolding fresh_of
-begun events m n q t e =
-    rw (m, n, q, t, e)
-    (runs.begins (table_of (replicate 9 0) (replicate 136 (pos 0)) (replicate 136 0) (replicate 64 0) (replicate 65 0))
+begun events m n t e =
+    rw (m, n, t, e)
+    (runs.begins (table_of (replicate 9 0) (replicate 136 (pos 0)) (replicate 128 0) (replicate 64 0) (replicate 65 0))
     (record { masks = refl; numbers = refl; places = refl; order = refl; times = refl }) events)
 
 loop-holds : tie.Need-loop-init invariant-loop decreases-loop
 loop-holds c =
     let f = c.before.before.before.before.before.fresh.ensures in
-    ([], begun _ f.1 f.2 f.3 f.4 c.start.ensures)
+    ([], begun _ f.1 f.2 f.3 c.start.ensures)
 
 loop-again : tie.Need-loop-preserved invariant-loop decreases-loop
 loop-again c =

@@ -23,7 +23,7 @@ slice-aggregate-put-gone c = search rules
 put-gone-requires : tie.Need-put-gone-requires
 put-gone-requires c κs =
     let b = c.before.before.before in
-    let a = b.before.before.before.before.before.before.args in
+    let a = b.before.before.before.before.before.args in
     let e = ap (λ (r : Dropped). count_of r.answer) (b.gone.ensures []) in
     let t = table_of a.masks.now a.numbers.now a.places.now a.order.now [] in
     omega (arith, e, gone-count t a.peer lent_slice)
@@ -35,7 +35,7 @@ returns : tie.Need-returns
 unfolding turn_of lines_of after_event call_lines
 returns c =
     let b = c.before.before.before.before.before.before in
-    let a = b.before.before.before.before.before.before.args in
+    let a = b.before.before.before.before.before.args in
     λ ts. turn_is (λ (r : Dropped). r.table) (λ (r : Dropped). dropped_lines (gone_word a.peer) r.answer r.slice)
     a.text.now (b.gone.ensures ts) c.before.before.put-gone.ensures
 

@@ -44,12 +44,6 @@ enum-known-e-6 c = search rules
 run-out-turn-requires : tie.Need-run-out-turn-requires
 run-out-turn-requires c κs = search rules
 
-enum-known-e-7 : tie.Need-enum-known-e-7
-enum-known-e-7 c = search rules
-
-finish-turn-requires : tie.Need-finish-turn-requires
-finish-turn-requires c κs = search rules
-
 enum_told : tie.Need-enum-told
 enum_told c = search rules
 
@@ -133,12 +127,12 @@ same-length-7 : tie.Need-same-length-7
 same-length-7 c = search rules
 
 returns-7 : tie.Need-returns-7
+unfolding turn_of lines_of after_event
 returns-7 c =
-    let known = c.before.before.before.before.before.before in
-    let a = known.before.before.before.args in
-    event-is (table_of a.masks.now a.numbers.now a.places.now a.order.now a.times.now) a.text.now
-    known.e7.given.1
-    (c.before.before.finish-turn.ensures a.masks.now a.numbers.now a.order.now a.times.now)
+    let a = c.before.before.before.before.before.before.before.args in
+    let t = table_of a.masks.now a.numbers.now a.places.now a.order.now a.times.now in
+    let p = c.before.before.Put-refused.ensures in
+    event-is t a.text.now c.before.before.before.before.enum_told.given.1 (ap (turned t) p.0, p.1)
 
 same-length-8 : tie.Need-same-length-8
 same-length-8 c = search rules
@@ -148,8 +142,8 @@ unfolding turn_of lines_of after_event
 returns-8 c =
     let a = c.before.before.before.before.before.before.before.args in
     let t = table_of a.masks.now a.numbers.now a.places.now a.order.now a.times.now in
-    let p = c.before.before.Put-refused.ensures in
-    event-is t a.text.now c.before.before.before.before.enum_told.given.1 (ap (turned t) p.0, p.1)
+    let p = c.before.before.put-refused2.ensures in
+    event-is t a.text.now c.before.before.before.before.enum-told2.given.1 (ap (turned t) p.0, p.1)
 
 same-length-9 : tie.Need-same-length-9
 same-length-9 c = search rules
@@ -157,17 +151,6 @@ same-length-9 c = search rules
 returns-9 : tie.Need-returns-9
 unfolding turn_of lines_of after_event
 returns-9 c =
-    let a = c.before.before.before.before.before.before.before.args in
-    let t = table_of a.masks.now a.numbers.now a.places.now a.order.now a.times.now in
-    let p = c.before.before.put-refused2.ensures in
-    event-is t a.text.now c.before.before.before.before.enum-told2.given.1 (ap (turned t) p.0, p.1)
-
-same-length-10 : tie.Need-same-length-10
-same-length-10 c = search rules
-
-returns-10 : tie.Need-returns-10
-unfolding turn_of lines_of after_event
-returns-10 c =
     let a = c.before.before.before.before.before.before.before.args in
     let t = table_of a.masks.now a.numbers.now a.places.now a.order.now a.times.now in
     let p = c.before.before.put-refused3.ensures in
@@ -189,8 +172,6 @@ turn_spec =
     ask-turn-requires-2
     enum-known-e-6
     run-out-turn-requires
-    enum-known-e-7
-    finish-turn-requires
     enum_told
     put-refused-requires
     enum-told-2
@@ -214,6 +195,4 @@ turn_spec =
     same-length-8
     returns-8
     same-length-9
-    returns-9
-    same-length-10
-    returns-10)
+    returns-9)

@@ -46,7 +46,6 @@ impl Wrong {
                 let count = self.gone(side, number, ends);
                 count.map(|count| Answer::Gone(side, count))
             }
-            Event::Finish(_) => unreachable!("none is finishing in these runs"),
         };
         self.move_time(event);
         self.keep_places();
@@ -59,7 +58,7 @@ impl Wrong {
             Event::Reply(..) => Call::Reply,
             Event::Cancel(..) => Call::Cancel,
             Event::Gone(side, _) => Call::Gone(side),
-            Event::AskBy(..) | Event::RunOut(_) | Event::Finish(_) => return,
+            Event::AskBy(..) | Event::RunOut(_) => return,
         };
         let latest = &mut self.book.latest_time_seen;
         if self.mistake == Mistake::MovesTime(call, Move::On) {

@@ -56,24 +56,6 @@ fn run_out(tables: [&mut Table; 2], time: u64, room: usize) -> Answers {
     counted(ours, defined, [out, wanted])
 }
 
-/// The same mark on two tables.
-fn finish(tables: [&mut Table; 2], publisher: u8) -> Answers {
-    let [table, other] = tables;
-    let ours = relay_finish(table, publisher);
-    (
-        (ours, 0, 0),
-        defined::finish(other, publisher).map(|()| (0, 0)),
-    )
-}
-
-/// The same load told of two tables.
-fn load(tables: [&mut Table; 2], publisher: u8) -> Answers {
-    let ours = relay_load(tables[0], publisher);
-    let defined = defined::load(tables[1], publisher);
-    let defined = defined.map(|load| (0, load as i64));
-    ((ours.refusal, 0, ours.load as i64), defined)
-}
-
 const NUMBERS: [i64; 8] = [0, 1, 2, 3, -1, i64::MAX, i64::MAX - 1, i64::MIN];
 const TIMEOUTS: [u32; 5] = [0, 1, 2, 1 << 31, u32::MAX];
 
@@ -95,12 +77,10 @@ fn compare(random: &mut Random, table: &mut Table) {
     let tables = [&mut *table, &mut other];
     let (a, b) = (random.below(34) as u8, random.below(9) as u8);
     let room = [0, 1, 2, 5, 16, 40, 127, 128, 130][random.below(9)];
-    let (ours, defined) = match random.below(10) {
+    let (ours, defined) = match random.below(8) {
         4 => many(LINK, tables, a, room),
         5 => many(PUBLISHER, tables, b, room),
         6 | 7 => run_out(tables, any_time(random), room),
-        8 => finish(tables, b),
-        9 => load(tables, b),
         kind => one(random, tables, a, b, kind),
     };
     let defined = defined.map_or_else(|no| (no, 0, 0), |(place, n)| (0, place, n));
@@ -138,11 +118,7 @@ fn random_contents() {
         let mut table = Table {
             masks: std::array::from_fn(|_| sparse(&mut random)),
             numbers: std::array::from_fn(|_| NUMBERS[random.below(8)]),
-            places: std::array::from_fn(|i| match i {
-                // Mostly none is finishing, and any number but 0 says so.
-                128.. => random.below(2) as u8 * random.below(3) as u8 * random.below(256) as u8,
-                _ => random.below(links) as u8,
-            }),
+            places: std::array::from_fn(|_| random.below(links) as u8),
             order: any_order(&mut random, n / 12 % 4),
             times: std::array::from_fn(|_| any_time(&mut random)),
         };

@@ -71,7 +71,6 @@ fn ask_refusal(table: &Table, link: u8, front: i64, publisher: u8, time: u64) ->
     let refusals = [
         (front == 0, 12),
         (of_front(table, link, front).is_some(), 31),
-        (table.places[128 + usize::from(publisher)] != 0, 27),
         (load(publisher) >= 16, 32),
         (load(publisher) >= 4 && taken == 64, 33),
         (table.masks[0] == u64::MAX, 33),
@@ -145,27 +144,10 @@ pub fn cancel(table: &mut Table, link: u8, front: i64) -> Result<(u8, i64), u8> 
 pub fn gone(table: &mut Table, publisher: bool, number: u8, out: &mut [i64]) -> Result<usize, u8> {
     match publisher {
         PUBLISHER if number > 7 => Err(30),
-        PUBLISHER => {
-            let count = freed(table, mine(table, number), 0, out)?;
-            table.places[128 + usize::from(number)] = 0;
-            Ok(count)
-        }
+        PUBLISHER => freed(table, mine(table, number), 0, out),
         LINK if number > 31 => Err(30),
         LINK => freed(table, of_link(table, number), 64, out),
     }
-}
-
-/// Nothing, or a refusal.
-pub fn finish(table: &mut Table, publisher: u8) -> Result<(), u8> {
-    let mark = table.places[128..].get_mut(usize::from(publisher));
-    *mark.ok_or(30)? = 1;
-    Ok(())
-}
-
-/// A publisher's load, or a refusal.
-pub fn load(table: &Table, publisher: u8) -> Result<usize, u8> {
-    let mask = table.masks[1..].get(usize::from(publisher)).ok_or(30)?;
-    Ok(slots(*mask).count())
 }
 
 /// The same of deadlines that have come.

@@ -1,6 +1,4 @@
-// The message types: a packet's type is its message's type. Constants alone, for links and messages alike. The types of
-// the packets that a link itself reads and writes are in the crate `packet`.
-#![tactic(auto)]
+// The message types: a packet's type is its message's type.
 
 // Client to server.
 pub const INVOKE: u32 = 0x2374df3d;

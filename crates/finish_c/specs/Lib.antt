@@ -1,2 +1,0 @@
--- Definitions of crate finish_c: answers as numbers.
-pub mod FinishFields

@@ -1,2 +1,0 @@
--- Definitions of crate link_fins: the closing conversation.
-pub mod Fins
