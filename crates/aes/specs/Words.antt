@@ -2,7 +2,7 @@
 -- computed speaks of these; what the cipher is does not. Assumes nothing.
 use Rattle.std.specs.Prelude.{ℕ, ◌/◌, ◌%◌, List, [], ◌∷◌, ◌++◌}
 use Rattle.aes.specs.declared.Quad.{Quad}
-use Rattle.aes.specs.Field.{mul, sbox, unsbox}
+use Rattle.aes.specs.Field.{mul, sbox}
 
 -- the bytes of a word
 unfoldable pub bytes4 : ℕ → List ℕ

@@ -7,21 +7,21 @@
 #![tactic(auto)]
 
 // Whether a call was done, or a refusal's number: then buffer and vector stay.
-#[derive(Drop)]
+#[derive(Clone, Copy)]
 pub enum Answer {
     Done,
     Refused(u8),
 }
 
 // A call's answer, and the vector for the next one.
-#[derive(Drop)]
+#[derive(Clone, Copy)]
 pub struct Chained {
     pub answer: Answer,
     pub vector: [u8; 16],
 }
 
 // A block of sixteen bytes as four words, the first byte lowest.
-#[derive(Drop)]
+#[derive(Clone, Copy)]
 pub struct Quad {
     pub a: u32,
     pub b: u32,

@@ -14,7 +14,7 @@ use inflight::PublisherNumber;
 
 // An ask accepted with a publisher number.
 #[repr(C)]
-#[derive(Drop)]
+#[derive(Clone, Copy)]
 pub struct RelayAsked {
     pub refusal: u8,
     pub number: PublisherNumber,

@@ -10,7 +10,7 @@ ghost use Rattle.body.specs.Written.{size_or_refusal};
 use refusal::{BUFFER_TOO_SMALL, LENGTH_OVER_LIMIT, NUMBER_ZERO, PAYLOAD_READS_AS_HEADER};
 
 // How many bytes were written at the front of the lent slice, or a refusal's number: then no byte was.
-#[derive(Drop)]
+#[derive(Clone, Copy)]
 pub enum Written {
     Size(usize),
     Refused(u8),

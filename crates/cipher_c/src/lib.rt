@@ -12,26 +12,26 @@ pub use chains::{relay_decipher, relay_encipher};
 pub use schedules::{relay_decipher_keys, relay_encipher_keys};
 
 #[repr(C)]
-#[derive(Drop)]
+#[derive(Clone, Copy)]
 pub struct RelayCipherKey {
     pub bytes: [u8; 32],
 }
 
 #[repr(C)]
-#[derive(Drop)]
+#[derive(Clone, Copy)]
 pub struct RelayRoundKeys {
     pub bytes: [u8; 240],
 }
 
 #[repr(C)]
-#[derive(Drop)]
+#[derive(Clone, Copy)]
 pub struct RelayVector {
     pub bytes: [u8; 16],
 }
 
 // The vector for the next call; where refusal is not 0, it is the refusal's number, and buffer and vector stay.
 #[repr(C)]
-#[derive(Drop)]
+#[derive(Clone, Copy)]
 pub struct RelayChained {
     pub refusal: u8,
     pub vector: RelayVector,

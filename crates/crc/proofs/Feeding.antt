@@ -1,10 +1,10 @@
 -- Bytes fed to the register, many at once. All of it holds for every polynomial. Assumes nothing.
 use mathlib.Core.Path.{◌≡◌, refl, sym, ap, ap₂, ◌∙◌}
 use mathlib.Core.List.{List, [], ◌∷◌, ◌++◌}
-use Prim.Native.Nat.{ℕ, zero, suc, ◌+◌, ◌*◌, ◌/◌, ◌%◌, ◌^◌, ◌≤◌, ◌<◌}
+use Prim.Native.Nat.{ℕ, suc, ◌+◌, ◌*◌, ◌^◌, ◌≤◌, ◌<◌}
 use native.Mathlib.Nat.{add_comm, mul_comm, mul-suc}
 use native.Mathlib.Omega.{arith}
-use lib.ListN.{length, take, drop, get_or, length-drop, take-append-drop, drop_of_length-le}
+use lib.ListN.{length, drop, get_or, length-drop, take-append-drop, drop_of_length-le}
 use lib.Seq.{drop-drop, drop-cons, length-take-le}
 use lib.Bits.{bit_xor, xor_comm, xor_zero_r, xor_self, xor_shifted}
 use Rattle.wire.specs.Bytes.{le, part}

@@ -1,8 +1,8 @@
 -- The register's step is linear: the step of a sum, digit by digit, is the sum of the steps. All of it holds for every polynomial.
 -- Assumes nothing.
 use mathlib.Core.Path.{◌≡◌, refl, sym, ap, ap₂, ◌∙◌}
-use Prim.Native.Nat.{ℕ, zero, suc, ◌+◌, ◌*◌, ◌/◌, ◌%◌, ◌^◌, ◌≤◌, ◌<◌}
-use native.Mathlib.Nat.{le_of_suc-le-suc, not-suc-le-zero, mod-lt, zero-lt-suc, mul-div_cancel, mul-mod_left, mul-one, mul_assoc, mul_comm, pow-suc, add_comm, suc-add, zero-add}
+use Prim.Native.Nat.{ℕ, zero, suc, ◌+◌, ◌*◌, ◌/◌, ◌%◌, ◌^◌, ◌<◌}
+use native.Mathlib.Nat.{le_of_suc-le-suc, not-suc-le-zero, mod-lt, zero-lt-suc, mul-div_cancel, mul-mod_left, mul-one, mul_assoc, pow-suc, suc-add, zero-add}
 use native.Mathlib.Omega.{arith}
 use lib.Pow.{pow_pos, split}
 use lib.Bits.{bit_xor, differ, xor_zero_r, xor_self, xor_shifted}

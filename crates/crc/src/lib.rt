@@ -5,14 +5,14 @@
 #![tactic(auto)]
 
 // Which checksum: CRC-32 or CRC-32C.
-#[derive(Drop)]
+#[derive(Clone, Copy)]
 pub enum Polynomial {
     Ieee,
     Castagnoli,
 }
 
 // Four registers whose bytes are interleaved, eight bytes each.
-#[derive(Drop)]
+#[derive(Clone, Copy)]
 pub struct Lanes {
     pub first: u32,
     pub second: u32,

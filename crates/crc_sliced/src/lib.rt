@@ -19,7 +19,7 @@ ghost use Rattle.crc_sliced.specs.Slices.{Slices};
 use crc::{Lanes, Polynomial};
 
 // The four registers, and where their bytes begin.
-#[derive(Drop)]
+#[derive(Clone, Copy)]
 struct Interleaved {
     lanes: Lanes,
     at: usize,

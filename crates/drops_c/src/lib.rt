@@ -12,7 +12,7 @@ pub use drops::{relay_gone_lent, relay_run_out_lent};
 
 // How many requests were freed. refusal is the refusal's number, or 0; the count of a refusal is 0.
 #[repr(C)]
-#[derive(Drop)]
+#[derive(Clone, Copy)]
 pub struct RelayDropped {
     pub refusal: u8,
     pub count: usize,

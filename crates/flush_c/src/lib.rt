@@ -13,14 +13,14 @@ use link_state::Link;
 // How many bytes the words take at the front of the buffer; or, where refusal is not 0, the refusal's number, and then
 // the size is 0 and no byte was written.
 #[repr(C)]
-#[derive(Drop)]
+#[derive(Clone, Copy)]
 pub struct RelayFlushed {
     pub refusal: u8,
     pub size: usize,
 }
 
 // The link after a flush call, and the answer.
-#[derive(Drop)]
+#[derive(Clone, Copy)]
 struct Answered {
     link: Link,
     answer: RelayFlushed,

@@ -13,7 +13,7 @@ pub use pids::net_pids;
 
 // A process as a Handshake names it.
 #[repr(C)]
-#[derive(Drop)]
+#[derive(Clone, Copy)]
 pub struct NetPid {
     pub ip: u32,
     pub port: u16,
@@ -24,7 +24,7 @@ pub struct NetPid {
 
 // The two processes that a Handshake names: who sent it, and whom the sender took its peer for.
 #[repr(C)]
-#[derive(Drop)]
+#[derive(Clone, Copy)]
 pub struct NetPids {
     pub sender: NetPid,
     pub peer: NetPid,

@@ -1,6 +1,6 @@
 -- How MD5 and SHA-1 fill a message up to whole blocks and go through them (RFC 1321, 3.1 and 3.2; FIPS 180-4, 5.1.1).
 -- Assumes nothing.
-use Rattle.std.specs.Prelude.{ℕ, zero, suc, ◌+◌, ◌*◌, ◌-◌, ◌/◌, ◌%◌, Bool, List, ◌∷◌, ◌++◌, reverse, length, drop, replicate}
+use Rattle.std.specs.Prelude.{ℕ, zero, suc, ◌*◌, ◌-◌, ◌/◌, ◌%◌, Bool, List, ◌∷◌, ◌++◌, reverse, length, drop, replicate}
 use Rattle.wire.specs.Bytes.{part, bytes}
 use Rattle.wire.specs.Choice.{pick}
 

@@ -13,14 +13,14 @@ pub use recognise::kind_of;
 pub use values::{DEST_ACTOR, DEST_ACTOR_FLAGS, DEST_FLAGS, REQ_ERROR, TL2_MARKER};
 
 // The side that reads a message: a server reads requests, a client reads answers.
-#[derive(Drop)]
+#[derive(Clone, Copy)]
 pub enum Side {
     Client,
     Server,
 }
 
 // What a value is at the front of what is left of a body. Flags: an extra follows; Marker: TL2 follows.
-#[derive(Drop)]
+#[derive(Clone, Copy)]
 pub enum Kind {
     Flags,
     Actor,

@@ -26,51 +26,51 @@ pub use start::fresh;
 
 // A front number: it belongs to a front link.
 #[repr(C)]
-#[derive(Drop)]
+#[derive(Clone, Copy)]
 pub struct FrontNumber(pub i64);
 
 // A publisher number: it belongs to a publisher's link.
 #[repr(C)]
-#[derive(Drop)]
+#[derive(Clone, Copy)]
 pub struct PublisherNumber(pub i64);
 
 // Who is at the other end of a connection, by side and number: a front link or a publisher.
-#[derive(Drop)]
+#[derive(Clone, Copy)]
 pub enum Peer {
     Front(u8),
     Publisher(u8),
 }
 
 // An ask is accepted with a publisher number, or refused.
-#[derive(Drop)]
+#[derive(Clone, Copy)]
 pub enum AskAnswer {
     Accepted(PublisherNumber),
     Refused(u8),
 }
 
 // A reply goes to a link and its front number, or is refused.
-#[derive(Drop)]
+#[derive(Clone, Copy)]
 pub enum ReplyAnswer {
     Front(u8, FrontNumber),
     Refused(u8),
 }
 
 // A cancel goes to a publisher and its number, or is refused.
-#[derive(Drop)]
+#[derive(Clone, Copy)]
 pub enum CancelAnswer {
     Publisher(u8, PublisherNumber),
     Refused(u8),
 }
 
 // Of a gone peer, or of requests that run out: how many were freed, or a refusal.
-#[derive(Drop)]
+#[derive(Clone, Copy)]
 pub enum DropAnswer {
     Count(usize),
     Refused(u8),
 }
 
 // A first number is taken, or refused.
-#[derive(Drop)]
+#[derive(Clone, Copy)]
 pub enum FreshAnswer {
     Ready,
     Refused(u8),

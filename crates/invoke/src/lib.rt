@@ -12,21 +12,21 @@ pub use effective::effective_timeout;
 // Bit 23 of an extra's mask: a timeout follows.
 pub const TIMEOUT_BIT: u32 = 0x80_0000;
 
-#[derive(Drop)]
+#[derive(Clone, Copy)]
 pub enum Actor {
     Absent,
     Is(i64),
 }
 
 // In milliseconds. 0 is none: no reader reports it, and a writer that is given it writes no field.
-#[derive(Drop)]
+#[derive(Clone, Copy)]
 pub enum Timeout {
     Absent,
     Ms(u32),
 }
 
 // What an invoke means. Its payload (document 01: the rest) is the len bytes of the body from byte at on.
-#[derive(Drop)]
+#[derive(Clone, Copy)]
 pub struct Invoke {
     pub number: i64,
     pub actor: Actor,
@@ -36,7 +36,7 @@ pub struct Invoke {
     pub len: usize,
 }
 
-#[derive(Drop)]
+#[derive(Clone, Copy)]
 pub enum InvokeRead {
     Invoke(Invoke),
     Refused(u8),

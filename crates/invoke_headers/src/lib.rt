@@ -12,7 +12,7 @@ use invoke::{Actor, Timeout};
 pub use one_header::next_header;
 
 // What the headers said so far, and where the next one would begin. extra: an extra was read.
-#[derive(Drop)]
+#[derive(Clone, Copy)]
 pub struct Headers {
     pub at: usize,
     pub actor: Actor,
@@ -22,7 +22,7 @@ pub struct Headers {
 }
 
 // What one header leads to: more headers, the payload, or a refusal's number.
-#[derive(Drop)]
+#[derive(Clone, Copy)]
 pub enum Next {
     More(Headers),
     Done(Headers),
@@ -30,7 +30,7 @@ pub enum Next {
 }
 
 // A header's extra, and where it ends; or a refusal's number.
-#[derive(Drop)]
+#[derive(Clone, Copy)]
 pub enum Extra {
     Is { timeout: Timeout, next: usize },
     Refused(u8),

@@ -12,7 +12,7 @@ pub use parts::{put_front, randoms};
 
 // What the message has of one end: the random bytes and the time of its Nonce, and its address and port.
 #[repr(C)]
-#[derive(Drop)]
+#[derive(Clone, Copy)]
 pub struct End {
     pub random: [u8; 16],
     pub time: u32,
@@ -21,7 +21,7 @@ pub struct End {
 }
 
 #[repr(C)]
-#[derive(Drop)]
+#[derive(Clone, Copy)]
 pub struct Ends {
     pub client: End,
     pub server: End,

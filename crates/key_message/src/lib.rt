@@ -12,7 +12,7 @@ mod whole;
 pub use whole::write_message;
 
 // How many bytes were written at the front of the lent buffer, or a refusal's number: then no byte was.
-#[derive(Drop)]
+#[derive(Clone, Copy)]
 pub enum InitMessage {
     Size(usize),
     Refused(u8),

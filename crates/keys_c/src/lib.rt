@@ -18,20 +18,20 @@ use nonce_in::Place;
 pub use nonces::relay_read_nonce;
 
 #[repr(C)]
-#[derive(Drop)]
+#[derive(Clone, Copy)]
 pub struct RelayMd5 {
     pub bytes: [u8; 16],
 }
 
 #[repr(C)]
-#[derive(Drop)]
+#[derive(Clone, Copy)]
 pub struct RelaySha1 {
     pub bytes: [u8; 20],
 }
 
 // The fields of a Nonce; or, where refusal is not 0, the refusal's number, and then all else is 0.
 #[repr(C)]
-#[derive(Drop)]
+#[derive(Clone, Copy)]
 pub struct RelayNonceFields {
     pub refusal: u8,
     pub version: u8,
@@ -43,7 +43,7 @@ pub struct RelayNonceFields {
 // Which keys: of what version, for what the server sends or the client, from what both Nonces and the connection say,
 // and with the shared bytes that version 2 uses.
 #[repr(C)]
-#[derive(Drop)]
+#[derive(Clone, Copy)]
 pub struct RelayDerivation {
     pub version: u8,
     pub server: bool,
@@ -54,7 +54,7 @@ pub struct RelayDerivation {
 // How many bytes the init message takes at the front of the buffer, with key and vector; or, where refusal is not 0,
 // the refusal's number, and then all else is 0 and no byte was written.
 #[repr(C)]
-#[derive(Drop)]
+#[derive(Clone, Copy)]
 pub struct RelayDerived {
     pub refusal: u8,
     pub size: usize,

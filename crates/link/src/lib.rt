@@ -17,7 +17,7 @@ use packet::Arrival;
 pub use step::receive_step;
 
 // The link after a receive call, and the answer.
-#[derive(Drop)]
+#[derive(Clone, Copy)]
 pub struct Received {
     pub link: Link,
     pub answer: Arrival,

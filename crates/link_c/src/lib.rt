@@ -19,7 +19,7 @@ pub use times::relay_clock_difference;
 
 // A link that was set up. refusal is the refusal's number, or 0: then the link is ready.
 #[repr(C)]
-#[derive(Drop)]
+#[derive(Clone, Copy)]
 pub struct RelaySetUp {
     pub refusal: u8,
     pub link: Link,
@@ -27,7 +27,7 @@ pub struct RelaySetUp {
 
 // A part of the bytes: the len bytes from byte at on.
 #[repr(C)]
-#[derive(Drop)]
+#[derive(Clone, Copy)]
 pub struct RelayPart {
     pub at: usize,
     pub len: usize,
@@ -35,7 +35,7 @@ pub struct RelayPart {
 
 // Their time minus ours, where the clocks are near; else 0.
 #[repr(C)]
-#[derive(Drop)]
+#[derive(Clone, Copy)]
 pub struct RelayClock {
     pub near: bool,
     pub difference: i64,

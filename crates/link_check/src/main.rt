@@ -16,7 +16,7 @@ use print::{bytes, refused};
 use space::{fill, front};
 
 // The link after a record, and whether there was one.
-#[derive(Drop)]
+#[derive(Clone, Copy)]
 pub struct Turn {
     pub link: Link,
     pub more: bool,

@@ -14,7 +14,7 @@ pub use whole::derive;
 
 // The answer of `derive`: the message's size at the front of the lent buffer, with key and vector, or a refusal's
 // number, with zeros.
-#[derive(Drop)]
+#[derive(Clone, Copy)]
 pub struct Derived {
     pub answer: InitMessage,
     pub key: [u8; 32],

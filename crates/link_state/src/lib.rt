@@ -16,7 +16,7 @@ pub const OUR_VERSION: u8 = 2;
 
 // How a link is set up; it does not change afterwards.
 #[repr(C)]
-#[derive(Drop)]
+#[derive(Clone, Copy)]
 pub struct Settings {
     pub server: bool,
     // whether CRC-32C is offered by a client, or granted by a server
@@ -34,14 +34,14 @@ pub struct Settings {
 
 // What the caller gives with each call.
 #[repr(C)]
-#[derive(Drop)]
+#[derive(Clone, Copy)]
 pub struct Moment {
     // our time, in seconds
     pub time: u32,
 }
 
 #[repr(C)]
-#[derive(Drop)]
+#[derive(Clone, Copy)]
 pub struct Link {
     pub set: Settings,
     pub closed: bool,
@@ -70,7 +70,7 @@ pub struct Link {
 }
 
 // A link, or a refusal's number.
-#[derive(Drop)]
+#[derive(Clone, Copy)]
 pub enum SetUp {
     Ready(Link),
     Refused(u8),

@@ -12,7 +12,7 @@ mod tables;
 pub use blocks::md5;
 
 // The four words that go from block to block.
-#[derive(Drop)]
+#[derive(Clone, Copy)]
 pub struct State {
     pub a: u32,
     pub b: u32,

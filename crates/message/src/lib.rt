@@ -16,7 +16,7 @@ pub use slice::part_of;
 pub use types::{CANCEL, CLIENT_FIN, INVOKE, OLD_ERROR, RESULT, SERVER_FIN};
 
 // What a body means, or a refusal's number.
-#[derive(Drop)]
+#[derive(Clone, Copy)]
 pub enum Message {
     Invoke(Invoke),
     Cancel(i64),

@@ -13,7 +13,7 @@ pub use messages::relay_read_message;
 // error, 6 server fin. refusal is the refusal's number. hasactor and hastimeout: an invoke gives an actor, a timeout in
 // ms. The payload or text is the len bytes of the body from byte at on. A field that the kind does not have is 0.
 #[repr(C)]
-#[derive(Drop)]
+#[derive(Clone, Copy)]
 pub struct RelayMessage {
     pub kind: u8,
     pub refusal: u8,

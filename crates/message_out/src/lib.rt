@@ -15,7 +15,7 @@ use invoke::{Actor, Timeout};
 pub use step::message_step;
 
 // A message to send; the payload of an invoke or result, or the text of an error, goes beside it.
-#[derive(Drop)]
+#[derive(Clone, Copy)]
 pub enum Outgoing {
     Invoke {
         number: i64,

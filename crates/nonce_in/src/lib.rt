@@ -11,14 +11,14 @@ pub use read::nonce_fields;
 
 // A part of the body: the len bytes from byte at on.
 #[repr(C)]
-#[derive(Drop)]
+#[derive(Clone, Copy)]
 pub struct Place {
     pub at: usize,
     pub len: usize,
 }
 
 #[repr(C)]
-#[derive(Drop)]
+#[derive(Clone, Copy)]
 pub struct NonceFields {
     pub version: u8,
     pub time: u32,
@@ -28,7 +28,7 @@ pub struct NonceFields {
 }
 
 // The fields, or a refusal's number.
-#[derive(Drop)]
+#[derive(Clone, Copy)]
 pub enum NonceRead {
     Fields(NonceFields),
     Refused(u8),

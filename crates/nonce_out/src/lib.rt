@@ -12,7 +12,7 @@ pub use nonce::nonce_step;
 
 // What the caller draws for a Nonce: the random bytes, and the card's point, which is written where the cipher is
 // offered or taken.
-#[derive(Drop)]
+#[derive(Clone, Copy)]
 pub struct Drawn {
     pub random: [u8; 16],
     pub point: [u8; 32],

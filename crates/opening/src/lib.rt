@@ -12,7 +12,7 @@ pub use nonce::{least, nonce_refusal};
 pub use times::clock_difference;
 
 // Their time minus ours, where the clocks are near.
-#[derive(Drop)]
+#[derive(Clone, Copy)]
 pub enum Clock {
     Near(i64),
     Far,

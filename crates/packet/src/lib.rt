@@ -17,7 +17,7 @@ pub use sum::checksum_of;
 pub use types::{HANDSHAKE, NONCE, PING, PONG};
 
 // What stands at the front of the bytes.
-#[derive(Drop)]
+#[derive(Clone, Copy)]
 pub enum Arrival {
     // so many bytes more are needed
     Incomplete(usize),

@@ -13,7 +13,7 @@ pub use sealing::seal;
 pub use size::{size_or_refusal, usable};
 
 // How many bytes the packet takes at the front of the buffer, or a refusal's number: then no byte was written.
-#[derive(Drop)]
+#[derive(Clone, Copy)]
 pub enum Sent {
     Written(usize),
     Refused(u8),

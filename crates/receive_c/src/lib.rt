@@ -15,7 +15,7 @@ use link_state::Link;
 // more is how many bytes more are needed; a packet has its type, the bytes it takes, and its body, the len bytes from
 // byte at on. A field that the tag does not have is 0.
 #[repr(C)]
-#[derive(Drop)]
+#[derive(Clone, Copy)]
 pub struct RelayArrival {
     pub tag: u8,
     pub refusal: u8,
@@ -27,7 +27,7 @@ pub struct RelayArrival {
 }
 
 // The link after a receive call, and the answer.
-#[derive(Drop)]
+#[derive(Clone, Copy)]
 struct Answered {
     link: Link,
     answer: RelayArrival,

@@ -11,26 +11,26 @@ pub use read::{read_old_error, read_result};
 
 // A payload (document 01: the rest, or page) of len bytes from byte at of the body on; or an error: its code, and its
 // text in the same way.
-#[derive(Drop)]
+#[derive(Clone, Copy)]
 pub enum Answer {
     Payload { at: usize, len: usize },
     Error { code: i32, at: usize, len: usize },
 }
 
-#[derive(Drop)]
+#[derive(Clone, Copy)]
 pub struct Reply {
     pub number: i64,
     pub answer: Answer,
 }
 
-#[derive(Drop)]
+#[derive(Clone, Copy)]
 pub enum ReplyRead {
     Reply(Reply),
     Refused(u8),
 }
 
 // Where the answer begins, behind the query number and at most one header; or a refusal's number.
-#[derive(Drop)]
+#[derive(Clone, Copy)]
 pub enum Begin {
     At(usize),
     Refused(u8),

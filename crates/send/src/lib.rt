@@ -19,7 +19,7 @@ use packet_out::Sent;
 pub use step::send_step;
 
 // What to send; the payload or text of a message goes beside it.
-#[derive(Drop)]
+#[derive(Clone, Copy)]
 pub enum ToSend {
     // with what the caller drew for it, which goes beside it: an enum that holds an array is not covered
     Nonce,

@@ -18,7 +18,7 @@ pub use sending::relay_send;
 // error says that it is an error and not a payload. Fields that the type does not use are ignored; a type that is never
 // sent is refused.
 #[repr(C)]
-#[derive(Drop)]
+#[derive(Clone, Copy)]
 pub struct RelayOutgoing {
     pub kind: u32,
     pub error: bool,
@@ -39,14 +39,14 @@ pub struct RelayOutgoing {
 // How many bytes the packet takes at the front of the buffer; or, where refusal is not 0, the refusal's number, and
 // then the size is 0 and no byte was written.
 #[repr(C)]
-#[derive(Drop)]
+#[derive(Clone, Copy)]
 pub struct RelaySent {
     pub refusal: u8,
     pub size: usize,
 }
 
 // The link after a send call, and the answer.
-#[derive(Drop)]
+#[derive(Clone, Copy)]
 struct Answered {
     link: Link,
     answer: RelaySent,

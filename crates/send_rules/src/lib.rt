@@ -12,7 +12,7 @@ use link_state::Link;
 use packet_out::Sent;
 
 // The link after a send call, and the answer.
-#[derive(Drop)]
+#[derive(Clone, Copy)]
 pub struct Step {
     pub link: Link,
     pub answer: Sent,

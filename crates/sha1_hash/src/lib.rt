@@ -14,7 +14,7 @@ mod turns;
 pub use blocks::sha1;
 
 // The five words that go from block to block.
-#[derive(Drop)]
+#[derive(Clone, Copy)]
 pub struct State {
     pub a: u32,
     pub b: u32,

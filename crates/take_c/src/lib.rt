@@ -15,7 +15,7 @@ use inflight::{FrontNumber, PublisherNumber};
 
 // A reply that goes to a link and its front number.
 #[repr(C)]
-#[derive(Drop)]
+#[derive(Clone, Copy)]
 pub struct RelayReplied {
     pub refusal: u8,
     pub link: u8,
@@ -24,7 +24,7 @@ pub struct RelayReplied {
 
 // A cancel that goes to a publisher and its number.
 #[repr(C)]
-#[derive(Drop)]
+#[derive(Clone, Copy)]
 pub struct RelayCancelled {
     pub refusal: u8,
     pub publisher: u8,

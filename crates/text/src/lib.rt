@@ -9,7 +9,7 @@ mod read;
 pub use read::read_text;
 
 // A text of len bytes from byte at on, with next past its zeros; or a refusal's number.
-#[derive(Drop)]
+#[derive(Clone, Copy)]
 pub enum Text {
     Found { at: usize, len: usize, next: usize },
     Refused(u8),

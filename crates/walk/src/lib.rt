@@ -12,7 +12,7 @@ mod walking;
 pub use walking::walk;
 
 // How far a walk came: the bytes of whole events and of text, and whether it stopped for good.
-#[derive(Drop)]
+#[derive(Clone, Copy)]
 pub struct Walked {
     pub consumed: usize,
     pub written: usize,

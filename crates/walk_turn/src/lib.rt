@@ -12,7 +12,7 @@ use inflight::{FrontNumber, Peer, PublisherNumber};
 pub use turns::turn;
 
 // What stands at the front of some event bytes.
-#[derive(Drop)]
+#[derive(Clone, Copy)]
 pub enum Event {
     // Kind 1: an ask with time 0 and timeout 0.
     Ask(u8, FrontNumber, u8),
