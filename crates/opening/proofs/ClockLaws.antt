@@ -8,7 +8,7 @@ use lib.IntN.{ℤ, pos, negsuc, ◌-ℤ◌}
 use lib.Signed.{mag, le_z, lt_z}
 use lib.Dec.{ltb, leb}
 use mir.Syntax.{w64}
-use mir.Val.{SFits, to_z, of_z}
+use mir.Val.{to_z, of_z}
 use mir.ValLaws.{to_z_pos, to_z-of_z}
 use Rattle.opening.specs.Clock.{within30}
 use Rattle.opening.specs.declared.Clock.TheVariants.{Near, Far}
