@@ -2,7 +2,7 @@
 use mathlib.Core.Path.{◌≡◌, refl, sym, ap, ap₂, ◌∙◌, subst}
 use mathlib.Core.Bool.{Bool, true, false, ◌&&◌}
 use mathlib.Core.List.{List, [], ◌∷◌}
-use Prim.Native.Nat.{ℕ, zero, suc, ◌+◌, ◌-◌, ◌*◌, ◌/◌, ◌%◌, ◌≤◌, ◌<◌}
+use Prim.Native.Nat.{ℕ, zero, suc, ◌+◌, ◌-◌, ◌*◌, ◌/◌, ◌%◌, ◌<◌}
 use native.Mathlib.Nat.{le_of_suc-le-suc, not-suc-le-zero, mod-lt, zero-lt-suc, zero-mul, zero-add}
 use native.Mathlib.Omega.{arith}
 use lib.Dec.{T, eqb, eqb→eq}
@@ -13,7 +13,7 @@ use lib.Bits.{bit_xor, xor_comm, xor_shifted}
 use Rattle.crc.specs.Crc.{clocks}
 use Rattle.crc_short.specs.HalfBytes.{Halves}
 use Rattle.crc.proofs.Register.{clocks-xor, clocks-add, byte_step}
-use Rattle.crc.proofs.TableTest.{run, run_is, row, row_at, and_left, and_right}
+use Rattle.crc.proofs.TableTest.{run_is, row, row_at, and_left, and_right}
 
 none : (p c : ℕ) → c ≡ clocks p 0 c
 unfolding clocks
