@@ -128,10 +128,10 @@ keep m (cancel l n) e i f =
     keep-pick m (Cancel l n) m.seen e y _ (cancel-refused y _ _ _) i f
 keep m (gone peer out) e i f =
     let y : Bool = eqb (drop_refusal m (M.no_peer peer) (key_of peer) out) 0 in
-    keep-pick m (key_of peer) m.seen e y _ (drop-refused y _ _ out) i f
+    keep-pick m (key_of peer) m.seen e y _ (drop-refused y _ _ _) i f
 keep m (run_out time out) e i f =
     let y : Bool = eqb (drop_refusal m (M.no_time time) (M.run_out_key m time) out) 0 in
-    keep-pick m (M.run_out_key m time) (M.latest m time) e y _ (drop-refused y _ _ out) i f
+    keep-pick m (M.run_out_key m time) (M.latest m time) e y _ (drop-refused y _ _ _) i f
 
 came : (m : Model) (c : Call) (e : Request) → In e (model_after m c).requests
     → (In e m.requests × (frees m.seen e c (model_heard m c) ≡ false)) ⊎ Gives m c e
@@ -145,10 +145,10 @@ came m (cancel l n) e i =
     inl (came-pick m (Cancel l n) m.seen e y _ (cancel-refused y _ _ _) i)
 came m (gone peer out) e i =
     let y : Bool = eqb (drop_refusal m (M.no_peer peer) (key_of peer) out) 0 in
-    inl (came-pick m (key_of peer) m.seen e y _ (drop-refused y _ _ out) i)
+    inl (came-pick m (key_of peer) m.seen e y _ (drop-refused y _ _ _) i)
 came m (run_out time out) e i =
     let y : Bool = eqb (drop_refusal m (M.no_time time) (M.run_out_key m time) out) 0 in
-    inl (came-pick m (M.run_out_key m time) (M.latest m time) e y _ (drop-refused y _ _ out) i)
+    inl (came-pick m (M.run_out_key m time) (M.latest m time) e y _ (drop-refused y _ _ _) i)
 
 -- ---- the latest time
 
@@ -188,7 +188,7 @@ seen_step m (gone peer out) =
     (refused (model_heard m (gone peer out)))
 seen_step m (run_out time out) =
     let y : Bool = eqb (drop_refusal m (M.no_time time) (M.run_out_key m time) out) 0 in
-    seen_pick m _ _ time y _ (drop-refused y _ _ out)
+    seen_pick m _ _ time y _ (drop-refused y _ _ _)
 
 -- ---- the list
 
