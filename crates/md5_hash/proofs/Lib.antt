@@ -1,3 +1,3 @@
--- Laws that the proofs of crate md5 cite.
+-- Laws that the proofs of crate md5_hash cite.
 pub mod Fours
 pub mod Turns
