@@ -51,6 +51,13 @@ within-most g xs m n h =
     ap length w ∙ length-append (within g (take m xs)) (within g (take (n - m) (drop m xs))) in
     omega arith
 
+-- where the byte at i is one, the slice has room for its two numbers
+pub room_for : (g : ℕ) (xs : List ℕ) (i n at m : ℕ) → i < n → n ≤ length xs → has g (get_or xs i 0) ≡ true → at ≡ 2 * length (within g (take i xs)) → 2 * length (within g (take n xs)) ≤ m → at + 2 ≤ m
+room_for g xs i n at m h l e p q =
+    let w = within-most g xs (i + 1) n (omega arith) in
+    let y : length (within g (take (i + 1) xs)) ≡ length (within g (take i xs)) + 1 = ap length (within-yes g xs i (omega arith) e) ∙ length-append (within g (take i xs)) (get_or xs i 0 ∷ []) in
+    omega (arith, w, y, p, q)
+
 module _ (ns : List ℤ) (ps : List ℕ) (base : ℕ) where
   pub ends-append : (a b : List ℕ) → ends_of ns ps base (a ++ b) ≡ ends_of ns ps base a ++ ends_of ns ps base b
   unfolding ends_of
