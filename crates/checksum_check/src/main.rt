@@ -4,7 +4,7 @@
 
 ghost use Rattle.std.specs.Prelude.{◌≤◌};
 
-use libc::{STDIN_FILENO, STDOUT_FILENO};
+use std::io::{self, ErrorKind, Read};
 
 // The longest input that a record may have.
 const MOST: usize = 32768;
@@ -13,61 +13,70 @@ fn size(x: u32) -> usize {
     x as usize
 }
 
-fn wide(x: u32) -> u64 {
-    x as u64
-}
-
 fn least(a: usize, b: usize) -> usize
     ensures { (result ≤ a) × (result ≤ b) }
 {
     if a < b { a } else { b }
 }
 
-fn print_sum(sum: u32) {
-    io::write_all(STDOUT_FILENO, b" ");
-    io::print_hex(STDOUT_FILENO, wide(sum), 8);
+fn print_sum(out: &impl Print, sum: u32) -> io::Result<()> {
+    print!(out; " {sum:08x}")
 }
 
 // Of the first n bytes, whole and in two parts at k.
-fn print_sums(space: &[u8], n: usize, k: usize) {
+fn print_sums(out: &impl Print, space: &[u8], n: usize, k: usize) -> io::Result<()> {
     let end = least(n, space.len());
     let s = &space[0..end];
     let m = least(k, s.len());
     let front = &s[0..m];
     let back = &s[m..];
-    io::print_decimal(STDOUT_FILENO, s.len() as u64);
-    print_sum(checksum::crc32(s));
-    print_sum(checksum::crc32_update(checksum::crc32(front), back));
-    print_sum(checksum::crc32c(s));
-    print_sum(checksum::crc32c_update(checksum::crc32c(front), back));
-    io::write_all(STDOUT_FILENO, b"\n");
+    print!(out; "{}", s.len())?;
+    print_sum(out, checksum::crc32(s))?;
+    print_sum(out, checksum::crc32_update(checksum::crc32(front), back))?;
+    print_sum(out, checksum::crc32c(s))?;
+    print_sum(out, checksum::crc32c_update(checksum::crc32c(front), back))?;
+    print!(out; "\n")
+}
+
+// Fills the buffer; false where the input ends before.
+fn fill(input: &mut impl Read, buf: &mut [u8]) -> io::Result<bool> {
+    match input.read_exact(buf) {
+        Ok(()) => Ok(true),
+        Err(e) if e.kind() == ErrorKind::UnexpectedEof => Ok(false),
+        Err(e) => Err(e),
+    }
 }
 
 // Reads a record and prints its line; false at the end.
-fn record() -> bool {
+fn record(input: &mut impl Read, out: &impl Print) -> io::Result<bool> {
     let mut head = [0u8; 8];
-    if io::read_full(STDIN_FILENO, &mut head) < 8 {
-        return false;
+    if !fill(input, &mut head)? {
+        return Ok(false);
     }
     let n = size(wire::u32_at(&head, 0));
     let k = size(wire::u32_at(&head, 4));
     if MOST < n {
-        return false;
+        return Ok(false);
     }
     let mut space = [0u8; 32768];
     let buf: &mut [u8] = &mut space;
-    if io::read_full(STDIN_FILENO, &mut buf[0..n]) < n {
-        return false;
+    if !fill(input, &mut buf[0..n])? {
+        return Ok(false);
     }
-    print_sums(buf, n, k);
-    true
+    print_sums(out, buf, n, k)?;
+    Ok(true)
 }
 
-fn main() {
-    check::expect(checksum::crc32(b"123456789") == 0xcbf4_3926);
-    check::expect(checksum::crc32c(b"123456789") == 0xe306_9283);
-    let mut turns = u64::MAX;
-    while turns > 0 && record() {
-        turns -= 1;
+fn main(rt: HostRuntime) -> io::Result<()> {
+    let sum = checksum::crc32(b"123456789");
+    prove!(sum == 0xcbf4_3926);
+    let sum_c = checksum::crc32c(b"123456789");
+    prove!(sum_c == 0xe306_9283);
+    let mut input = rt.reader();
+    for _ in 0..u64::MAX {
+        if !record(&mut input, &rt)? {
+            break;
+        }
     }
+    Ok(())
 }
