@@ -13,8 +13,6 @@ use Rattle.wire.proofs.ByteLaws.{length-bytes, part-sets}
 use Rattle.wire.proofs.StoreLaws.{runs-2, front-stored, sets-whole, lent}
 use Rattle.md5_hash.specs.Md5 as md
 use Rattle.sha1_hash.specs.Sha1 as sh
-use Rattle.md5_hash.specs.declared.State as ms
-use Rattle.sha1_hash.specs.declared.State as ss
 use Rattle.key_front.specs.declared.Ends.{Ends}
 use Rattle.key_message.specs.declared.InitMessage.{InitMessage}
 use Rattle.key_message.specs.declared.InitMessage.TheVariants.{Size, Refused}
