@@ -1,0 +1,13 @@
+use mathlib.Core.Path.{◌≡◌}
+use Prim.Native.Nat.{◌≤◌, ◌-◌}
+use Rattle.aes_loops.proofs.Turns.{Done, onward, spun}
+use Rattle.aes_encipher.proofs.Rounds.{unmixed_at}
+use Rattle.aes_encipher.proofs.block.last.Given as goal
+
+-- `aes_encipher::block::last` meets its contract. Assumes nothing.
+
+abbrev pub invariant-loop-j : goal.invariant-loop-j
+invariant-loop-j l = (l.j ≤ 4) × ((l.q ≡ spun onward l.j l.initial.q) × (Done (unmixed_at l.k l.at l.initial.q) l.j l.o))
+
+abbrev pub decreases-loop-j : goal.decreases-loop-j
+decreases-loop-j l = 4 - l.j
