@@ -1,4 +1,3 @@
 -- Laws that several proofs cite, and those of an event's lines for the crates above.
-pub mod DistanceLaws
 pub mod LineLaws
 pub mod TurnLaws

@@ -1,0 +1,14 @@
+-- A reply: its table, and its answer's line.
+-- Assumes nothing.
+use Rattle.inflight.specs.Tables.{Replied}
+use Rattle.walk_turn.specs.Lines.{reply_line, call_lines}
+use Rattle.walk_turn.specs.Turn.{turn_of, lines_of, after_event}
+use Rattle.walk_turn.proofs.TurnLaws.{turn_is}
+use Rattle.walk_turn.proofs.turns.reply_turn.Goals as goal
+
+pub returns : goal.returns
+unfolding turn_of lines_of after_event call_lines
+returns c = λ ts.
+    turn_is (λ (r : Replied). r.table) (λ (r : Replied). reply_line r.answer)
+    c.args.text.now
+    (c.reply-answer.ensures ts) c.put_reply.ensures
