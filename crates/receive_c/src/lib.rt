@@ -1,9 +1,8 @@
 // Receiving, in the C interface: `relay_receive` wraps `link::receive_step` over a lent link and has its contract.
 //
-// It stands apart from `link_c`, since its proof is a walk by hand and long. The answer passes as a struct of numbers,
-// the body of a packet as a place and a length. Nothing here decides anything: what a call answers is said by the
-// crate `link`. The types that matter are `RelayArrival` and the `Link` of crate link_state, which the caller keeps
-// and lends.
+// The other calls of a link are in `link_c`. The answer passes as a struct of numbers, the body of a packet as a place
+// and a length. Nothing here decides anything: what a call answers is said by the crate `link`. The types that matter
+// are `RelayArrival` and the `Link` of crate link_state, which the caller keeps and lends.
 #![tactic(auto)]
 
 mod arrivals;
