@@ -4,14 +4,10 @@
 
 ghost use Rattle.std.specs.Prelude.{◌≡◌, ◌≤◌, length};
 
-use libc::{STDIN_FILENO, STDOUT_FILENO};
+use std::io::{self, ErrorKind, Read};
 
 fn size(x: u8) -> usize {
     x as usize
-}
-
-fn wide(x: u8) -> u64 {
-    x as u64
 }
 
 fn place(x: u64) -> usize {
@@ -19,47 +15,46 @@ fn place(x: u64) -> usize {
 }
 
 // A number, with a space behind it.
-fn print_number(n: u64) {
-    io::print_decimal(STDOUT_FILENO, n);
-    io::write_all(STDOUT_FILENO, b" ");
+fn print_number(out: &impl Print, n: u64) -> io::Result<()> {
+    print!(out; "{n} ")
 }
 
 // A signed number of width bits that are bits as an unsigned number; modulus is 2 ^ width, or 0 for 64.
-fn print_signed(negative: bool, bits: u64, modulus: u64) {
+fn print_signed(out: &impl Print, negative: bool, bits: u64, modulus: u64) -> io::Result<()> {
     if negative {
-        io::write_all(STDOUT_FILENO, b"-");
-        print_number(std::num::wrapping_sub_u64(modulus, bits));
+        print!(out; "-")?;
+        print_number(out, modulus.wrapping_sub(bits))
     } else {
-        print_number(bits);
+        print_number(out, bits)
     }
 }
 
-fn print_front(space: &[u8], n: usize) {
+fn print_front(out: &impl Print, space: &[u8], n: usize) -> io::Result<()> {
     let m = least(n, space.len());
-    print_bytes(&space[0..m]);
+    print_bytes(out, &space[0..m])
 }
 
-fn print_bytes(s: &[u8]) {
+fn print_bytes(out: &impl Print, s: &[u8]) -> io::Result<()> {
     if s.len() == 0 {
-        io::write_all(STDOUT_FILENO, b"-");
+        print!(out; "-")?;
     }
-    let mut i = 0;
-    while i < s.len() {
-        io::print_hex(STDOUT_FILENO, wide(s[i]), 2);
-        i += 1;
+    for b in s {
+        print!(out; "{b:02x}")?;
     }
+    Ok(())
 }
 
-fn print_reads(s: &[u8], at: usize) {
-    print_number(wire::u16_at(s, at) as u64);
-    print_number(wire::u32_at(s, at) as u64);
-    print_number(wire::u64_at(s, at));
+fn print_reads(out: &impl Print, s: &[u8], at: usize) -> io::Result<()> {
+    print_number(out, wire::u16_at(s, at) as u64)?;
+    print_number(out, wire::u32_at(s, at) as u64)?;
+    print_number(out, wire::u64_at(s, at))?;
     print_signed(
+        out,
         wire::i32_at(s, at) < 0,
         wire::u32_at(s, at) as u64,
         4294967296,
-    );
-    print_signed(wire::i64_at(s, at) < 0, wire::u64_at(s, at), 0);
+    )?;
+    print_signed(out, wire::i64_at(s, at) < 0, wire::u64_at(s, at), 0)
 }
 
 fn least(a: usize, b: usize) -> usize
@@ -88,38 +83,47 @@ fn store(d: &mut [u8], kind: u8, at: usize, value: u64) {
 }
 
 // s after a store.
-fn print_stored(s: &[u8], kind: u8, at: usize, value: u64) {
+fn print_stored(out: &impl Print, s: &[u8], kind: u8, at: usize, value: u64) -> io::Result<()> {
     let mut space = [0u8; 32];
     let d: &mut [u8] = &mut space;
     store_bytes::copy(d, 0, s);
     let n = least(s.len(), d.len());
     store(&mut d[0..n], kind, at, value);
-    print_front(d, n);
+    print_front(out, d, n)
 }
 
-fn print_line(space: &[u8], n: usize, at: usize, value: u64) {
+fn print_line(out: &impl Print, space: &[u8], n: usize, at: usize, value: u64) -> io::Result<()> {
     let m = least(n, space.len());
     let s = &space[0..m];
-    print_reads(s, at);
-    print_stored(s, 0, at, value);
-    io::write_all(STDOUT_FILENO, b" ");
-    print_stored(s, 1, at, value);
-    io::write_all(STDOUT_FILENO, b" ");
-    print_stored(s, 2, at, value);
-    io::write_all(STDOUT_FILENO, b" ");
-    print_stored(s, 3, at, value);
-    io::write_all(STDOUT_FILENO, b" ");
-    print_stored(s, 4, at, value);
-    io::write_all(STDOUT_FILENO, b" ");
-    print_stored(s, 5, at, value);
-    io::write_all(STDOUT_FILENO, b"\n");
+    print_reads(out, s, at)?;
+    print_stored(out, s, 0, at, value)?;
+    print!(out; " ")?;
+    print_stored(out, s, 1, at, value)?;
+    print!(out; " ")?;
+    print_stored(out, s, 2, at, value)?;
+    print!(out; " ")?;
+    print_stored(out, s, 3, at, value)?;
+    print!(out; " ")?;
+    print_stored(out, s, 4, at, value)?;
+    print!(out; " ")?;
+    print_stored(out, s, 5, at, value)?;
+    print!(out; "\n")
+}
+
+// Fills the buffer; false where the input ends before.
+fn fill(input: &mut impl Read, buf: &mut [u8]) -> io::Result<bool> {
+    match input.read_exact(buf) {
+        Ok(()) => Ok(true),
+        Err(e) if e.kind() == ErrorKind::UnexpectedEof => Ok(false),
+        Err(e) => Err(e),
+    }
 }
 
 // Reads a record and prints its line; false at the end.
-fn record() -> bool {
+fn record(input: &mut impl Read, out: &impl Print) -> io::Result<bool> {
     let mut head = [0u8; 17];
-    if io::read_full(STDIN_FILENO, &mut head) < 17 {
-        return false;
+    if !fill(input, &mut head)? {
+        return Ok(false);
     }
     let n = size(head[0]);
     let at = place(wire::u64_at(&head, 1));
@@ -127,18 +131,21 @@ fn record() -> bool {
     let mut space = [0u8; 32];
     let bytes: &mut [u8] = &mut space;
     if bytes.len() < n {
-        return false;
+        return Ok(false);
     }
-    if io::read_full(STDIN_FILENO, &mut bytes[0..n]) < n {
-        return false;
+    if !fill(input, &mut bytes[0..n])? {
+        return Ok(false);
     }
-    print_line(bytes, n, at, value);
-    true
+    print_line(out, bytes, n, at, value)?;
+    Ok(true)
 }
 
-fn main() {
-    let mut turns = u64::MAX;
-    while turns > 0 && record() {
-        turns -= 1;
+fn main(rt: HostRuntime) -> io::Result<()> {
+    let mut input = rt.reader();
+    for _ in 0..u64::MAX {
+        if !record(&mut input, &rt)? {
+            break;
+        }
     }
+    Ok(())
 }
