@@ -10,10 +10,10 @@ ghost use Rattle.std.specs.Prelude.{◌≤◌};
 use body::Written;
 use header::Side;
 use invoke::{Actor, Invoke, Timeout};
-use libc::STDIN_FILENO;
 use message::Message;
-use print::{bytes, decimal, refused, signed};
+use print::{refused, signed};
 use result::{Answer, Reply};
+use std::io::{self, ErrorKind, Read};
 
 // A body's bytes, and a buffer's: a record has at most 80,000 of either.
 const MOST: usize = 81920;
@@ -28,74 +28,70 @@ fn least(a: usize, b: usize) -> usize
     if a < b { a } else { b }
 }
 
-fn print_actor(actor: Actor) {
+fn print_actor(out: &impl Print, actor: Actor) -> io::Result<()> {
     match actor {
-        Actor::Absent => bytes(b"-"),
-        Actor::Is(n) => signed(n),
+        Actor::Absent => print!(out; "-"),
+        Actor::Is(n) => signed(out, n),
     }
 }
 
-fn print_timeout(timeout: Timeout) {
+fn print_timeout(out: &impl Print, timeout: Timeout) -> io::Result<()> {
     match timeout {
-        Timeout::Absent => bytes(b"-"),
-        Timeout::Ms(n) => decimal(n as u64),
+        Timeout::Absent => print!(out; "-"),
+        Timeout::Ms(n) => print!(out; "{n}"),
     }
 }
 
-fn print_place(at: usize, len: usize) {
-    bytes(b" ");
-    decimal(at as u64);
-    bytes(b" ");
-    decimal(len as u64);
-    bytes(b"\n");
+fn print_place(out: &impl Print, at: usize, len: usize) -> io::Result<()> {
+    println!(out; " {at} {len}")
 }
 
-fn print_invoke(i: Invoke) {
+fn print_invoke(out: &impl Print, i: Invoke) -> io::Result<()> {
     let actor = i.actor;
     let timeout = i.timeout;
-    bytes(b"invoke ");
-    signed(i.number);
-    bytes(b" ");
-    print_actor(actor);
-    bytes(b" ");
-    print_timeout(timeout);
+    print!(out; "invoke ")?;
+    signed(out, i.number)?;
+    print!(out; " ")?;
+    print_actor(out, actor)?;
+    print!(out; " ")?;
+    print_timeout(out, timeout)?;
     if i.tl2 {
-        bytes(b" 1");
+        print!(out; " 1")?;
     } else {
-        bytes(b" 0");
+        print!(out; " 0")?;
     }
-    print_place(i.at, i.len);
+    print_place(out, i.at, i.len)
 }
 
-fn print_reply(r: Reply) {
-    bytes(b"result ");
-    signed(r.number);
+fn print_reply(out: &impl Print, r: Reply) -> io::Result<()> {
+    print!(out; "result ")?;
+    signed(out, r.number)?;
     let answer = r.answer;
     match answer {
         Answer::Payload { at, len } => {
-            bytes(b" payload");
-            print_place(at, len);
+            print!(out; " payload")?;
+            print_place(out, at, len)
         }
         Answer::Error { code, at, len } => {
-            bytes(b" error ");
-            print::signed32(code);
-            print_place(at, len);
+            print!(out; " error ")?;
+            print::signed32(out, code)?;
+            print_place(out, at, len)
         }
     }
 }
 
-fn print_message(m: Message) {
+fn print_message(out: &impl Print, m: Message) -> io::Result<()> {
     match m {
-        Message::Invoke(i) => print_invoke(i),
+        Message::Invoke(i) => print_invoke(out, i),
         Message::Cancel(n) => {
-            bytes(b"cancel ");
-            signed(n);
-            bytes(b"\n");
+            print!(out; "cancel ")?;
+            signed(out, n)?;
+            println!(out)
         }
-        Message::ClientFin => bytes(b"client_fin\n"),
-        Message::Result(r) => print_reply(r),
-        Message::ServerFin => bytes(b"server_fin\n"),
-        Message::Refused(n) => refused(n),
+        Message::ClientFin => println!(out; "client_fin"),
+        Message::Result(r) => print_reply(out, r),
+        Message::ServerFin => println!(out; "server_fin"),
+        Message::Refused(n) => refused(out, n),
     }
 }
 
@@ -105,32 +101,41 @@ fn front<'a>(space: &'a [u8], n: usize) -> &'a [u8] {
     &space[0..end]
 }
 
-// Reads n bytes to the front of space; false where there are not so many.
-fn fill(space: &mut [u8], n: usize) -> bool {
-    if space.len() < n {
-        return false;
+// Fills the buffer; false where the input ends before.
+fn fill(input: &mut impl Read, buf: &mut [u8]) -> io::Result<bool> {
+    match input.read_exact(buf) {
+        Ok(()) => Ok(true),
+        Err(e) if e.kind() == ErrorKind::UnexpectedEof => Ok(false),
+        Err(e) => Err(e),
     }
-    io::read_full(STDIN_FILENO, &mut space[0..n]) == n
+}
+
+// Reads n bytes to the front of space; false where there are not so many.
+fn fill_front(input: &mut impl Read, space: &mut [u8], n: usize) -> io::Result<bool> {
+    if space.len() < n {
+        return Ok(false);
+    }
+    fill(input, &mut space[0..n])
 }
 
 // Operation 0: side (1), type (4), n (4), n bytes.
-fn read(space: &mut [u8]) -> bool {
+fn read(input: &mut impl Read, out: &impl Print, space: &mut [u8]) -> io::Result<bool> {
     let mut head = [0u8; 9];
-    if io::read_full(STDIN_FILENO, &mut head) < 9 {
-        return false;
+    if !fill(input, &mut head)? {
+        return Ok(false);
     }
     let tag = wire::u32_at(&head, 1);
     let n = size(wire::u32_at(&head, 5));
-    if !fill(space, n) {
-        return false;
+    if !fill_front(input, space, n)? {
+        return Ok(false);
     }
     let s = front(space, n);
     if head[0] == 0 {
-        print_message(message::read_message(Side::Server, tag, s));
+        print_message(out, message::read_message(Side::Server, tag, s))?;
     } else {
-        print_message(message::read_message(Side::Client, tag, s));
+        print_message(out, message::read_message(Side::Client, tag, s))?;
     }
-    true
+    Ok(true)
 }
 
 fn actor_of(given: u8, actor: i64) -> Actor {
@@ -167,55 +172,57 @@ fn write_kind(d: &mut [u8], head: &[u8], s: &[u8]) -> Written {
     }
 }
 
-fn print_written(w: Written, d: &[u8]) {
+fn print_written(out: &impl Print, w: Written, d: &[u8]) -> io::Result<()> {
     match w {
-        Written::Refused(n) => refused(n),
+        Written::Refused(n) => refused(out, n),
         Written::Size(k) => {
-            bytes(b"size ");
-            decimal(k as u64);
-            print::sum(checksum::crc32(d));
-            bytes(b"\n");
+            print!(out; "size {k}")?;
+            print::sum(out, checksum::crc32(d))?;
+            println!(out)
         }
     }
 }
 
 // Operation 1: kind (1), number (8), actor given (1), actor (8), timeout given (1), timeout (4), TL2 (1), code (4), room (4),
 // n (4), n bytes.
-fn write(space: &mut [u8]) -> bool {
+fn write(input: &mut impl Read, out: &impl Print, space: &mut [u8]) -> io::Result<bool> {
     let mut head = [0u8; 36];
-    if io::read_full(STDIN_FILENO, &mut head) < 36 {
-        return false;
+    if !fill(input, &mut head)? {
+        return Ok(false);
     }
     let n = size(wire::u32_at(&head, 32));
-    if !fill(space, n) {
-        return false;
+    if !fill_front(input, space, n)? {
+        return Ok(false);
     }
     let mut lent = [0xa5u8; 81920];
     let d: &mut [u8] = &mut lent;
     let room = least(size(wire::u32_at(&head, 28)), d.len());
     let w = write_kind(&mut d[0..room], &head, front(space, n));
-    print_written(w, front(d, room));
-    true
+    print_written(out, w, front(d, room))?;
+    Ok(true)
 }
 
 // One record; false at the end.
-fn record(space: &mut [u8]) -> bool {
+fn record(input: &mut impl Read, out: &impl Print, space: &mut [u8]) -> io::Result<bool> {
     let mut op = [0u8; 1];
-    if io::read_full(STDIN_FILENO, &mut op) < 1 {
-        return false;
+    if !fill(input, &mut op)? {
+        return Ok(false);
     }
     if op[0] == 0 {
-        read(space)
+        read(input, out, space)
     } else {
-        write(space)
+        write(input, out, space)
     }
 }
 
-fn main() {
+fn main(rt: HostRuntime) -> io::Result<()> {
+    let mut input = rt.reader();
     let mut space = [0u8; 81920];
     let body: &mut [u8] = &mut space;
-    let mut turns = u64::MAX;
-    while turns > 0 && record(body) {
-        turns -= 1;
+    for _ in 0..u64::MAX {
+        if !record(&mut input, &rt, body)? {
+            break;
+        }
     }
+    Ok(())
 }
