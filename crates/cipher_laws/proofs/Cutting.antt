@@ -86,18 +86,18 @@ pub kept-forth : {w v : List ℕ} (ps : List (List ℕ)) → Sized 240 w → Siz
     → AllBytes (passed (forth w) v ps) × Sized 16 (carried (forth w) v ps)
 unfolding passed carried
 kept-forth [] k hv u = (tt, hv)
-kept-forth (p ∷ ps) k hv u =
+kept-forth {w} {v} (p ∷ ps) k hv u =
     let b = bytes-forth p k hv u.0 in
-    let i = kept-forth ps k b.1 u.1 in
+    let i = kept-forth {v = (encipher_answer w v p).vector} ps k b.1 u.1 in
     ((b.0, i.0), i.1)
 
 pub kept_back : {d v : List ℕ} (qs : List (List ℕ)) → Sized 240 d → Sized 16 v → AllBytes qs
     → AllBytes (passed (back d) v qs) × Sized 16 (carried (back d) v qs)
 unfolding passed carried
 kept_back [] k hv u = (tt, hv)
-kept_back (q ∷ qs) k hv u =
+kept_back {d} {v} (q ∷ qs) k hv u =
     let b = bytes_back q k hv u.0 in
-    let i = kept_back qs k b.1 u.1 in
+    let i = kept_back {v = (decipher_answer v q).vector} qs k b.1 u.1 in
     ((b.0, i.0), i.1)
 
 pub whole-forth : (w v : List ℕ) (ps : List (List ℕ)) → length w ≡ 240 → AllWhole ps → AllWhole (passed (forth w) v ps)
@@ -132,7 +132,7 @@ each-piece {key} {v} (p ∷ ps) hk hv u h =
     let n = (encipher_answer (keys key) v p).vector in
     let cs = passed (forth (keys key)) n ps in
     let a = undone p hk hv u.0 h.0 in
-    let i = each-piece ps hk (bytes-forth p (keys_of hk) hv u.0).1 u.1 h.1 in
+    let i = each-piece {v = n} ps hk (bytes-forth p (keys_of hk) hv u.0).1 u.1 h.1 in
     let e : (decipher_answer v (encipher_buffer (keys key) v p)).vector ≡ n = ap (λ r. r.vector) a.1 in (
       ap₂ ◌∷◌ a.0 (ap (λ (x : List ℕ). passed (back d) x cs) e ∙ i.0),
       ap (λ (x : List ℕ). carried (back d) x cs) e ∙ i.1,
