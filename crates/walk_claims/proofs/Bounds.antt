@@ -1,18 +1,17 @@
 -- The bounds of a walk.
 -- Assumes nothing.
-use mathlib.Core.Path.{◌≡◌, refl, sym}
-use Prim.Native.Nat.{ℕ, zero, suc, ◌+◌, ◌-◌, ◌≤◌, ◌<◌}
+use mathlib.Core.Path.{◌≡◌, refl}
+use Prim.Native.Nat.{ℕ, zero, suc, ◌-◌, ◌≤◌, ◌<◌}
 use native.Mathlib.Omega.{arith}
 use mathlib.Core.Bool.{Bool, true, false, true≢false}
-use mathlib.Core.List.{List, [], ◌∷◌, ◌++◌}
+use mathlib.Core.List.{List, [], ◌∷◌}
 use borrow.Author.Tests.{le-ltb, ltb-false, eqb-false}
 use lib.Dec.{eqb, ltb}
 use lib.ListN.{length, drop, length-append}
-use Rattle.wire.specs.Choice.{pick}
 use Rattle.inflight.specs.Tables.{Table}
 use Rattle.walk_turn.specs.Turn.{lines_of, after_event}
 use Rattle.walk_events.specs.Events.{event_of, record_size, waits}
-use Rattle.walk.specs.Walk.{Outcome, ends, after, walk_from, walk_of}
+use Rattle.walk.specs.Walk.{Outcome, after, walk_from, walk_of}
 use Rattle.walk.proofs.WalkLaws.{lines-short}
 use Rattle.walk_claims.specs.Bounds.{Bounds}
 use Rattle.walk_claims.proofs.FullText.{positive}

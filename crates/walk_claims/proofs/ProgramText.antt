@@ -1,7 +1,7 @@
 -- The program's text is the model's.
 -- Assumes nothing.
 use mathlib.Core.Path.{◌≡◌, refl, sym, ap, ◌∙◌, subst}
-use Prim.Native.Nat.{ℕ, zero, suc, ◌+◌, ◌≤◌}
+use Prim.Native.Nat.{ℕ, ◌+◌, ◌≤◌}
 use native.Mathlib.Omega.{arith}
 use mathlib.Core.Bool.{Bool, true, false, ◌||◌, true≢false}
 use mathlib.Core.List.{List, [], ◌∷◌, ◌++◌, append-nil, append_assoc}
@@ -11,17 +11,14 @@ use lib.IntN.{pos}
 use lib.ListN.{length, drop}
 use lib.Seq.{drop-append-le}
 use Rattle.wire.specs.Choice.{pick}
-use Rattle.inflight.specs.Model.{empty}
-use Rattle.inflight.specs.Calls.{Call, Heard, model_run, table_run}
 use Rattle.inflight.specs.declared.PublisherNumber.{PublisherNumber}
 use Rattle.inflight.specs.Tables.{Table, Sized, fresh_of}
 use Rattle.inflight_claims.proofs.ListClaim.{listed}
-use Rattle.walk_turn.specs.Lines.{refused_line}
 use Rattle.walk.specs.Walk.{Outcome, walk_from, walk_of}
-use Rattle.walk_claims.specs.ProgramText.{calls_from, fault_from, rendered, model_text, Fed, fed_first, fed_next, feed, Piece, feed_all, finish, joined, over, ProgramText, ProgramTexts}
+use Rattle.walk_claims.specs.ProgramText.{calls_from, model_text, Fed, fed_first, fed_next, feed, Piece, feed_all, finish, joined, over, ProgramText, ProgramTexts}
 use Rattle.walk_claims.proofs.FullText.{full_from, told, full_is, enough}
 use Rattle.walk_claims.proofs.Ends.{comes-to-an-end}
-use Rattle.walk_claims.proofs.Resume.{full, with_rest, resume, consumed-most}
+use Rattle.walk_claims.proofs.Resume.{full, resume, consumed-most}
 
 -- ---- a caller's pieces
 
