@@ -61,8 +61,7 @@ fn answered(link: Link, bytes: &[u8], moment: Moment) -> Answered
 }
 
 // What the link makes of the front of the bytes. The link is lent, and updated where it stands.
-#[unsafe(no_mangle)]
-pub extern "C" fn relay_receive(link: &mut Link, bytes: &[u8], moment: Moment) -> RelayArrival
+pub fn relay_receive(link: &mut Link, bytes: &[u8], moment: Moment) -> RelayArrival
     ensures { (result ≡ arrival_fields (receive_of link.old bytes.now moment).answer)
         × (link.new ≡ (receive_of link.old bytes.now moment).link) }
 {

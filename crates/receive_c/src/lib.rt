@@ -1,4 +1,5 @@
-// Receiving, in the C interface: `relay_receive` wraps `link::receive_step` over a lent link and has its contract.
+// Receiving, in the C interface: `relay_receive` wraps `link::receive_step` over a lent link and has its contract. The
+// crate `receive_export` exports it, since `link_c` stands on this one.
 //
 // The other calls of a link are in `link_c`. The answer passes as a struct of numbers, the body of a packet as a place
 // and a length. Nothing here decides anything: what a call answers is said by the crate `link`. The types that matter
