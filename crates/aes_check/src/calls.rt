@@ -5,7 +5,7 @@ use aes_back_keys::back_keys;
 use aes_decipher::decipher;
 use aes_encipher::encipher;
 use aes_keys::round_keys;
-use libc::STDIN_FILENO;
+use std::io::{self, ErrorKind, Read};
 use store_bytes::copy;
 use wire::{part, u32_at};
 
@@ -27,84 +27,109 @@ fn vector_of(r: Chained) -> [u8; 16] {
 }
 
 // A call's line.
-fn line(r: Chained, s: &[u8]) {
+fn line(out: &impl Print, r: Chained, s: &[u8]) -> io::Result<()> {
     let a = r.answer;
     match a {
-        Answer::Done => print::bytes(b"done"),
-        Answer::Refused(n) => print::refused(n),
+        Answer::Done => print!(out; "done")?,
+        Answer::Refused(n) => print::refused(out, n)?,
     }
     let v = vector_of(r);
-    print::hexadecimal(&v);
-    print::contents(s);
-    print::bytes(b"\n");
+    print::hexadecimal(out, &v)?;
+    print::contents(out, s)?;
+    println!(out)
 }
 
-fn enciphered(w: [u8; 240], v: [u8; 16], s: &mut [u8]) -> [u8; 16] {
+fn enciphered(out: &impl Print, w: [u8; 240], v: [u8; 16], s: &mut [u8]) -> io::Result<[u8; 16]> {
     let r = encipher(w, v, s);
-    line(r, s);
-    vector_of(r)
+    line(out, r, s)?;
+    Ok(vector_of(r))
 }
 
-fn deciphered(d: [u8; 240], v: [u8; 16], s: &mut [u8]) -> [u8; 16] {
+fn deciphered(out: &impl Print, d: [u8; 240], v: [u8; 16], s: &mut [u8]) -> io::Result<[u8; 16]> {
     let r = decipher(d, v, s);
-    line(r, s);
-    vector_of(r)
+    line(out, r, s)?;
+    Ok(vector_of(r))
 }
 
 // Both calls, the first on at most so many bytes.
-fn forth(key: [u8; 32], v: [u8; 16], s: &mut [u8], first: usize) {
+fn forth(
+    out: &impl Print,
+    key: [u8; 32],
+    v: [u8; 16],
+    s: &mut [u8],
+    first: usize,
+) -> io::Result<()> {
     let w = round_keys(key);
     if s.len() < first {
-        let a = enciphered(w, v, s);
-        enciphered(w, a, &mut []);
-        return;
+        let a = enciphered(out, w, v, s)?;
+        enciphered(out, w, a, &mut [])?;
+        return Ok(());
     }
-    let a = enciphered(w, v, &mut s[0..first]);
-    enciphered(w, a, &mut s[first..]);
+    let a = enciphered(out, w, v, &mut s[0..first])?;
+    enciphered(out, w, a, &mut s[first..])?;
+    Ok(())
 }
 
-fn back(key: [u8; 32], v: [u8; 16], s: &mut [u8], first: usize) {
+fn back(
+    out: &impl Print,
+    key: [u8; 32],
+    v: [u8; 16],
+    s: &mut [u8],
+    first: usize,
+) -> io::Result<()> {
     let d = back_keys(round_keys(key));
     if s.len() < first {
-        let a = deciphered(d, v, s);
-        deciphered(d, a, &mut []);
-        return;
+        let a = deciphered(out, d, v, s)?;
+        deciphered(out, d, a, &mut [])?;
+        return Ok(());
     }
-    let a = deciphered(d, v, &mut s[0..first]);
-    deciphered(d, a, &mut s[first..]);
+    let a = deciphered(out, d, v, &mut s[0..first])?;
+    deciphered(out, d, a, &mut s[first..])?;
+    Ok(())
 }
 
 fn size(x: u32) -> usize {
     x as usize
 }
 
+// Fills the buffer; false where the input ends before.
+fn fill(input: &mut impl Read, buf: &mut [u8]) -> io::Result<bool> {
+    match input.read_exact(buf) {
+        Ok(()) => Ok(true),
+        Err(e) if e.kind() == ErrorKind::UnexpectedEof => Ok(false),
+        Err(e) => Err(e),
+    }
+}
+
 // Reads a record and prints its lines; false at the end.
-fn record(space: &mut [u8]) -> bool {
+fn record(input: &mut impl Read, out: &impl Print, space: &mut [u8]) -> io::Result<bool> {
     let mut head = [0u8; 57];
-    if io::read_full(STDIN_FILENO, &mut head) < 57 {
-        return false;
+    if !fill(input, &mut head)? {
+        return Ok(false);
     }
     let first = size(u32_at(&head, 49));
     let n = size(u32_at(&head, 53));
     if space.len() < n {
-        return false;
+        return Ok(false);
     }
-    if io::read_full(STDIN_FILENO, &mut space[0..n]) < n {
-        return false;
+    if !fill(input, &mut space[0..n])? {
+        return Ok(false);
     }
     let key = array32(part(&head, 1, 32));
     let v = array16(part(&head, 33, 16));
     match head[0] {
-        1 => forth(key, v, &mut space[0..n], first),
-        2 => back(key, v, &mut space[0..n], first),
-        _ => return false,
+        1 => forth(out, key, v, &mut space[0..n], first)?,
+        2 => back(out, key, v, &mut space[0..n], first)?,
+        _ => return Ok(false),
     }
-    true
+    Ok(true)
 }
 
-pub(crate) fn records(space: &mut [u8]) {
-    let mut turns = u64::MAX;
-    while turns > 0 && record(space) {
-        turns -= 1;
+pub(crate) fn records(input: &mut impl Read, out: &impl Print, space: &mut [u8]) -> io::Result<()> {
+    for _ in 0..u64::MAX {
+        if !record(input, out, space)? {
+            break;
+        }
     }
+    Ok(())
 }

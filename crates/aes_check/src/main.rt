@@ -7,7 +7,10 @@
 mod calls;
 mod print;
 
-fn main() {
+use std::io;
+
+fn main(rt: HostRuntime) -> io::Result<()> {
     let mut space = [0u8; 65536];
-    calls::records(&mut space);
+    let mut input = rt.reader();
+    calls::records(&mut input, &rt, &mut space)
 }

@@ -1,45 +1,34 @@
 // Text on standard output.
 use checksum::{crc32, crc32c};
-use libc::STDOUT_FILENO;
+use std::io;
 
 // The most bytes that are written out.
 const MOST: usize = 64;
 
-pub(crate) fn bytes(s: &[u8]) {
-    io::write_all(STDOUT_FILENO, s);
-}
-
-pub(crate) fn refused(n: u8) {
-    bytes(b"no ");
-    io::print_decimal(STDOUT_FILENO, n as u64);
-}
-
-fn byte(b: u8) {
-    io::print_hex(STDOUT_FILENO, b as u64, 2);
+pub(crate) fn refused(out: &impl Print, n: u8) -> io::Result<()> {
+    print!(out; "no {n}")
 }
 
 // A space and two hexadecimal digits for each byte.
-pub(crate) fn hexadecimal(s: &[u8]) {
-    bytes(b" ");
-    let mut i = 0;
-    while i < s.len() {
-        byte(s[i]);
-        i += 1;
+pub(crate) fn hexadecimal(out: &impl Print, s: &[u8]) -> io::Result<()> {
+    print!(out; " ")?;
+    for b in s {
+        print!(out; "{b:02x}")?;
     }
+    Ok(())
 }
 
 // A space and a checksum.
-fn sum(n: u32) {
-    bytes(b" ");
-    io::print_hex(STDOUT_FILENO, n as u64, 8);
+fn sum(out: &impl Print, n: u32) -> io::Result<()> {
+    print!(out; " {n:08x}")
 }
 
 // A buffer: its bytes, or both checksums where they are many.
-pub(crate) fn contents(s: &[u8]) {
+pub(crate) fn contents(out: &impl Print, s: &[u8]) -> io::Result<()> {
     if s.len() <= MOST {
-        hexadecimal(s);
+        hexadecimal(out, s)
     } else {
-        sum(crc32(s));
-        sum(crc32c(s));
+        sum(out, crc32(s))?;
+        sum(out, crc32c(s))
     }
 }
