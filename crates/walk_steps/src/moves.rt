@@ -4,7 +4,7 @@ ghost use Rattle.std.proofs.lemmas.List.Edits.{sets};
 ghost use Rattle.wire.specs.Bytes.{part};
 ghost use Rattle.walk_steps.specs.Step.{Filled, FilledUnless};
 
-use libc::STDIN_FILENO;
+use std::io::Read;
 
 pub(crate) fn least(a: usize, b: usize) -> usize
     ensures { result ≡ min a b }
@@ -12,24 +12,27 @@ pub(crate) fn least(a: usize, b: usize) -> usize
     if a < b { a } else { b }
 }
 
-// Reads once behind the first `have` bytes, and hands back how many there are then.
-fn read_more(buf: &mut [u8], have: usize) -> usize
+// Reads once behind the first `have` bytes, and hands back how many there are then. A read that fails brings nothing.
+fn read_more(input: &mut impl Read, buf: &mut [u8], have: usize) -> usize
     requires { have ≤ length buf.old }
     ensures { Filled have buf.old result buf.new }
 {
-    let got = libc::read(STDIN_FILENO, &mut buf[have..]);
-    have + io::count(got, &buf[have..])
+    let got = match input.read(&mut buf[have..]) {
+        Ok(n) => n,
+        Err(_) => 0,
+    };
+    have + got
 }
 
 // The same, but that nothing is read once the events have ended.
-pub(crate) fn fill(buf: &mut [u8], have: usize, ended: bool) -> usize
+pub(crate) fn fill(input: &mut impl Read, buf: &mut [u8], have: usize, ended: bool) -> usize
     requires { have ≤ length buf.old }
     ensures { FilledUnless ended have buf.old result buf.new }
 {
     if ended {
         return have;
     }
-    read_more(buf, have)
+    read_more(input, buf, have)
 }
 
 // Moves the bytes from `from` to `end` to the front.

@@ -4,7 +4,7 @@ ghost use Rattle.walk_steps.specs.Step.{Stepped};
 
 use crate::moves::{fill, least, move_front};
 use inflight::PublisherNumber;
-use libc::STDOUT_FILENO;
+use std::io::{Read, Write};
 use walk_progress::{Progress, goes_on, no_more, start};
 
 // One read, one walk, one write; what was not consumed moves to the front. A write that fails is the last, so that
@@ -18,6 +18,8 @@ pub fn step(
     p: Progress,
     events: &mut [u8],
     out: &mut [u8],
+    input: &mut impl Read,
+    output: &mut impl Write,
 ) -> Progress
     ensures { Stepped
         (table_of masks.old numbers.old places.old order.old
@@ -28,7 +30,7 @@ pub fn step(
         result events.new out.new }
 {
     let from = least(p.have, events.len());
-    let end = fill(events, from, p.ended);
+    let end = fill(input, events, from, p.ended);
     let count = end - from;
     let last = no_more(p.ended, from, events.len(), count);
     let r = walk::walk(
@@ -42,7 +44,7 @@ pub fn step(
         last,
     );
     let size = r.written;
-    let written = io::write_all(STDOUT_FILENO, &out[0..size]);
+    let written = output.write_all(&out[0..size]).is_ok();
     let used = r.consumed;
     move_front(events, used, end);
     let left = end - used;
@@ -53,18 +55,19 @@ pub fn step(
     }
 }
 
-// Steps until there is no next one, on a table that it keeps and starts at 1. It has no answer and nothing is lent to
-// it, so there is nothing to promise; its proof passes on from step to step that they are a run (specs/Runs.antt).
-pub fn run() {
+// Steps until there is no next one, on a table that it keeps and starts at 1. It has no answer, and what it reads and
+// writes is the world's, so there is nothing to promise; its proof passes on from step to step that they are a run
+// (specs/Runs.antt).
+pub fn run(input: &mut impl Read, output: &mut impl Write) {
     let mut masks = [0u64; 9];
     let mut numbers = [0i64; 136];
     let mut places = [0u8; 128];
     let mut order = [0u8; 64];
     let mut times = [0u64; 65];
     inflight::fresh(&mut masks, &mut numbers, &mut times, PublisherNumber(1));
-    let mut in_space = io::large_buffer();
+    let mut in_space = [0u8; 65536];
     let events: &mut [u8] = &mut in_space;
-    let mut out_space = io::large_buffer();
+    let mut out_space = [0u8; 65536];
     let out: &mut [u8] = &mut out_space;
     let mut p = start();
     let mut turns = u64::MAX;
@@ -79,6 +82,8 @@ pub fn run() {
             p,
             events,
             out,
+            input,
+            output,
         );
         if !q.more {
             return;
