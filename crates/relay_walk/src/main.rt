@@ -2,6 +2,8 @@
 // Crate `walk_steps` is all of it.
 #![tactic(auto)]
 
-fn main() {
-    walk_steps::run()
+fn main(rt: HostRuntime) {
+    let mut input = rt.stdin();
+    let mut output = rt.stdout();
+    walk_steps::run(&mut input, &mut output)
 }

@@ -2,6 +2,8 @@
 // hold, so that records lie across reads, and what was not consumed moves to the front again and again.
 #![tactic(auto)]
 
-fn main() {
-    walk_steps::run()
+fn main(rt: HostRuntime) {
+    let mut input = rt.stdin();
+    let mut output = rt.stdout();
+    walk_steps::run(&mut input, &mut output)
 }
