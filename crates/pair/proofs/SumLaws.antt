@@ -1,10 +1,9 @@
 -- A checksum of bytes has 32 bits. Assumes nothing.
 use native.Mathlib.Omega.{arith}
 use Prim.Native.Nat.{ℕ, zero, suc, ◌+◌, ◌/◌, ◌%◌, ◌<◌, ◌^◌}
-use native.Mathlib.Nat.{mod-lt, zero-lt-suc}
 use mathlib.Core.Bool.{Bool, true, false}
 use mathlib.Core.List.{List, [], ◌∷◌, ◌++◌}
-use lib.ListN.{length, get_or}
+use lib.ListN.{length}
 use lib.Bits.{bit_xor, xor_lt}
 use lib.Dec.{lit<}
 use Rattle.wire.specs.Bytes.{bytes}
