@@ -3,35 +3,28 @@
 use native.Mathlib.Omega.{arith}
 use borrow.Author.Tests.{leb-true, le-leb}
 use mathlib.Core.Path.{◌≡◌, refl, ap, sym, ◌∙◌}
-use mathlib.Core.Bool.{Bool, true, false, not, ◌&&◌}
-use mathlib.Core.List.{List, [], ◌∷◌}
+use mathlib.Core.Bool.{Bool, true, false, ◌&&◌}
+use mathlib.Core.List.{List}
 use Prim.Native.Nat.{ℕ, ◌+◌, ◌-◌, ◌*◌, ◌/◌, ◌%◌, ◌≤◌}
 use lib.Dec.{leb, eqb}
 use Rattle.wire.specs.Choice.{pick}
 use Rattle.link_state.specs.declared.Link.{Link}
 use Rattle.link_state.specs.declared.Settings.{Settings}
 use Rattle.link_state.specs.declared.Moment.{Moment}
-use Rattle.link_state.specs.SetUp.{fresh_of}
-use Rattle.link_state.specs.Turn.{may_send, stage_after}
-use Rattle.packet.specs.Allowed.{allowed_of, refuses}
+use Rattle.link_state.specs.Turn.{stage_after}
 use Rattle.packet_padding.specs.Padding.{padded_of, pads_of, phase_after}
 use Rattle.packet_padding.proofs.PaddingLaws.{tail-whole}
 use Rattle.packet_out.specs.Size.{size_of}
-use Rattle.packet_out.specs.declared.Sent.{Sent}
-use Rattle.packet_out.specs.declared.Sent.TheVariants.{Written, Refused}
-use Rattle.link.specs.Look.{turn_refusal}
-use Rattle.link_next.specs.Next.{closed_of, after_of}
-use Rattle.link.specs.Receive.{body_refusal}
+use Rattle.packet_out.specs.declared.Sent.TheVariants.{Written}
 use Rattle.send_rules.specs.Sent.{sent_of}
 use Rattle.send_rules.specs.declared.Step.{Step}
 use Rattle.nonce_out.specs.declared.Drawn.{Drawn}
-use Rattle.send.specs.Send.{send_of}
 use Rattle.send.specs.declared.ToSend.{ToSend}
 use Rattle.flush.specs.Flush.{begun_of, words_due, flushed_of, flush_step}
-use Rattle.link_calls.specs.Calls.{Call, receives, sends, flushes, type_of, after_calls}
-use Rattle.link_calls.proofs.Ways.{receive-ways, send-ways, flush-ways}
-use Rattle.link_padding.specs.Tally.{Tally, wrote, called, after, start, Quiet}
-use Rattle.link_padding.proofs.Stages.{from, kept, counts, shows}
+use Rattle.link_calls.specs.Calls.{sends, flushes, type_of}
+use Rattle.link_calls.proofs.Ways.{send-ways, flush-ways}
+use Rattle.link_padding.specs.Tally.{Tally, wrote, called}
+use Rattle.link_padding.proofs.Stages.{from, counts, shows}
 
 -- what a flush that is accepted answers
 pub flush-size : (l : Link) (room n : ℕ) → (flush_step l room).answer ≡ Written n → n ≡ words_due l * 4

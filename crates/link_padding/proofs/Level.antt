@@ -14,14 +14,13 @@ use Rattle.link_state.specs.declared.Settings.{Settings}
 use Rattle.link_state.specs.declared.Moment.{Moment}
 use Rattle.link_state.specs.SetUp.{fresh_of}
 use Rattle.link_state.specs.Turn.{may_send, stage_after}
-use Rattle.packet.specs.Allowed.{allowed_of, refuses}
+use Rattle.packet.specs.Allowed.{allowed_of}
 use Rattle.packet_padding.specs.Padding.{padded_of, pads_of, phase_after}
 use Rattle.packet_out.specs.Size.{size_of}
 use Rattle.packet_out.specs.declared.Sent.{Sent}
 use Rattle.packet_out.specs.declared.Sent.TheVariants.{Written, Refused}
 use Rattle.link.specs.Look.{turn_refusal}
 use Rattle.link_next.specs.Next.{closed_of, ciphered_after, after_of}
-use Rattle.link.specs.Receive.{body_refusal}
 use Rattle.send_rules.specs.Sent.{sent_of}
 use Rattle.send_rules.specs.declared.Step.{Step}
 use Rattle.nonce_out.specs.declared.Drawn.{Drawn}
