@@ -1,16 +1,20 @@
 // Operation 5: a flush call.
 use crate::Turn;
 use crate::sending::print_answer;
-use crate::space::{front, least, size};
+use crate::space::{front, least, size, whole};
 use flush::flush_step;
-use libc::STDIN_FILENO;
 use link_state::Link;
+use std::io::{self, Read};
 
 // Room (4).
-pub(crate) fn flush_record(link: Link) -> Turn {
+pub(crate) fn flush_record(
+    input: &mut impl Read,
+    out: &impl Print,
+    link: Link,
+) -> io::Result<Turn> {
     let mut head = [0u8; 4];
-    if io::read_full(STDIN_FILENO, &mut head) < 4 {
-        return Turn { link, more: false };
+    if !whole(input, &mut head)? {
+        return Ok(Turn { link, more: false });
     }
     let mut space = [0xa5u8; 4096];
     let buffer: &mut [u8] = &mut space;
@@ -18,9 +22,9 @@ pub(crate) fn flush_record(link: Link) -> Turn {
     let r = flush_step(link, &mut buffer[0..room]);
     let answer = r.answer;
     let next = r.link;
-    print_answer(b"flush", answer, front(buffer, room));
-    Turn {
+    print_answer(out, "flush", answer, front(buffer, room))?;
+    Ok(Turn {
         link: next,
         more: true,
-    }
+    })
 }

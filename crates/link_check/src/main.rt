@@ -10,10 +10,10 @@ mod receiving;
 mod sending;
 mod space;
 
-use libc::STDIN_FILENO;
 use link_state::{Link, SetUp, Settings};
-use print::{bytes, refused};
-use space::{fill, front};
+use print::refused;
+use space::{fill, front, whole};
+use std::io::{self, Read};
 
 // The link after a record, and whether there was one.
 #[derive(Clone, Copy)]
@@ -24,7 +24,7 @@ pub struct Turn {
 
 // A link with these settings and this key, or without one if it is empty; or the old one where they are refused; and the
 // line.
-fn set_up(old: Link, set: Settings, key: &[u8]) -> Link {
+fn set_up(out: &impl Print, old: Link, set: Settings, key: &[u8]) -> io::Result<Link> {
     let made = if key.len() == 0 {
         link_state::set_up(set)
     } else {
@@ -32,12 +32,12 @@ fn set_up(old: Link, set: Settings, key: &[u8]) -> Link {
     };
     match made {
         SetUp::Ready(link) => {
-            bytes(b"link");
-            link
+            print!(out; "link")?;
+            Ok(link)
         }
         SetUp::Refused(n) => {
-            refused(n);
-            old
+            refused(out, n)?;
+            Ok(old)
         }
     }
 }
@@ -45,20 +45,26 @@ fn set_up(old: Link, set: Settings, key: &[u8]) -> Link {
 // Operations 0 and 3: side (1; 1 is a server), whether CRC-32C is allowed (1), lowest version (1), whether it is padded
 // (1), whether it offers or takes the cipher (1), and that alone (1), the key's length (2), the key. Of all but the key
 // only the first n bytes are there, and what is not there is 0.
-fn begin(old: Link, n: usize, lent: &mut [u8]) -> Turn {
+fn begin(
+    input: &mut impl Read,
+    out: &impl Print,
+    old: Link,
+    n: usize,
+    lent: &mut [u8],
+) -> io::Result<Turn> {
     let mut head = [0u8; 8];
-    if !fill(&mut head, n) {
-        return Turn {
+    if !fill(input, &mut head, n)? {
+        return Ok(Turn {
             link: old,
             more: false,
-        };
+        });
     }
     let size = wire::u16_at(&head, 6) as usize;
-    if !fill(lent, size) {
-        return Turn {
+    if !fill(input, lent, size)? {
+        return Ok(Turn {
             link: old,
             more: false,
-        };
+        });
     }
     let set = Settings {
         server: head[0] == 1,
@@ -68,60 +74,76 @@ fn begin(old: Link, n: usize, lent: &mut [u8]) -> Turn {
         cipher: head[4] == 1,
         only: head[5] == 1,
     };
-    Turn {
-        link: set_up(old, set, front(lent, size)),
+    Ok(Turn {
+        link: set_up(out, old, set, front(lent, size))?,
         more: true,
-    }
+    })
 }
 
 // Operation 6.
-fn ciphered(link: Link) -> Turn {
+fn ciphered(out: &impl Print, link: Link) -> io::Result<Turn> {
     if link.ciphered {
-        bytes(b"cipher");
+        print!(out; "cipher")?;
     } else {
-        bytes(b"clear");
+        print!(out; "clear")?;
     }
-    Turn { link, more: true }
+    Ok(Turn { link, more: true })
 }
 
-fn operation(op: u8, link: Link, lent: &mut [u8]) -> Turn {
+fn operation(
+    input: &mut impl Read,
+    out: &impl Print,
+    op: u8,
+    link: Link,
+    lent: &mut [u8],
+) -> io::Result<Turn> {
     match op {
-        0 => begin(link, 2, lent),
-        1 => receiving::receive(link, lent),
-        2 => sending::send_record(link, lent),
-        3 => begin(link, 8, lent),
-        6 => ciphered(link),
-        _ => flushing::flush_record(link),
+        0 => begin(input, out, link, 2, lent),
+        1 => receiving::receive(input, out, link, lent),
+        2 => sending::send_record(input, out, link, lent),
+        3 => begin(input, out, link, 8, lent),
+        6 => ciphered(out, link),
+        _ => flushing::flush_record(input, out, link),
     }
 }
 
 // One record.
-fn record(link: Link, lent: &mut [u8]) -> Turn {
+fn record(
+    input: &mut impl Read,
+    out: &impl Print,
+    link: Link,
+    lent: &mut [u8],
+) -> io::Result<Turn> {
     let mut op = [0u8; 1];
-    if io::read_full(STDIN_FILENO, &mut op) < 1 {
-        return Turn { link, more: false };
+    if !whole(input, &mut op)? {
+        return Ok(Turn { link, more: false });
     }
-    let turn = operation(op[0], link, lent);
+    let turn = operation(input, out, op[0], link, lent)?;
     if turn.more {
-        print::end(turn.link.closed);
+        print::end(out, turn.link.closed)?;
     }
-    turn
+    Ok(turn)
 }
 
-fn records(first: Link, lent: &mut [u8]) {
+fn records(
+    input: &mut impl Read,
+    out: &impl Print,
+    first: Link,
+    lent: &mut [u8],
+) -> io::Result<()> {
     let mut link = first;
-    let mut turns = u64::MAX;
-    while 0 < turns {
-        turns -= 1;
-        let turn = record(link, lent);
+    for _ in 0..u64::MAX {
+        let turn = record(input, out, link, lent)?;
         if !turn.more {
-            return;
+            break;
         }
         link = turn.link;
     }
+    Ok(())
 }
 
-fn main() {
+fn main(rt: HostRuntime) -> io::Result<()> {
+    let mut input = rt.reader();
     let mut space = [0u8; 81920];
     let lent: &mut [u8] = &mut space;
     let set = Settings {
@@ -133,7 +155,7 @@ fn main() {
         only: false,
     };
     match link_state::set_up(set) {
-        SetUp::Ready(link) => records(link, lent),
-        SetUp::Refused(_) => {}
+        SetUp::Ready(link) => records(&mut input, &rt, link, lent),
+        SetUp::Refused(_) => Ok(()),
     }
 }

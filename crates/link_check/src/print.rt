@@ -1,48 +1,36 @@
 // Text on standard output.
-use libc::STDOUT_FILENO;
-
-pub(crate) fn bytes(s: &[u8]) {
-    io::write_all(STDOUT_FILENO, s);
-}
-
-pub(crate) fn decimal(n: u64) {
-    io::print_decimal(STDOUT_FILENO, n);
-}
+use std::io;
 
 // A space and a number.
-pub(crate) fn number(n: u64) {
-    bytes(b" ");
-    decimal(n);
+pub(crate) fn number(out: &impl Print, n: u64) -> io::Result<()> {
+    print!(out; " {n}")
 }
 
 // A space and 8 hexadecimal digits.
-pub(crate) fn hexadecimal(n: u32) {
-    bytes(b" ");
-    io::print_hex(STDOUT_FILENO, n as u64, 8);
+pub(crate) fn hexadecimal(out: &impl Print, n: u32) -> io::Result<()> {
+    print!(out; " {n:08x}")
 }
 
 // A space and a signed number: its bits say how far a negative one is from 0.
-pub(crate) fn signed(n: i64) {
+pub(crate) fn signed(out: &impl Print, n: i64) -> io::Result<()> {
     let mut bits = [0u8; 8];
     store_signed::put_i64(&mut bits, 0, n);
     let raw = wire::u64_at(&bits, 0);
     if n < 0 {
-        bytes(b" -");
-        decimal(std::num::wrapping_sub_u64(0, raw));
+        print!(out; " -{}", 0u64.wrapping_sub(raw))
     } else {
-        number(raw);
+        number(out, raw)
     }
 }
 
-pub(crate) fn refused(n: u8) {
-    bytes(b"no");
-    number(n as u64);
+pub(crate) fn refused(out: &impl Print, n: u8) -> io::Result<()> {
+    print!(out; "no {n}")
 }
 
 // The end of a line.
-pub(crate) fn end(closed: bool) {
+pub(crate) fn end(out: &impl Print, closed: bool) -> io::Result<()> {
     if closed {
-        bytes(b" closed");
+        print!(out; " closed")?;
     }
-    bytes(b"\n");
+    println!(out)
 }

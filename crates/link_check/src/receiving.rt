@@ -1,29 +1,29 @@
 // Operation 1: a receive call.
 use crate::Turn;
-use crate::print::{bytes, hexadecimal, number, refused, signed};
-use crate::space::{fill, front, size};
-use libc::STDIN_FILENO;
+use crate::print::{hexadecimal, number, refused, signed};
+use crate::space::{fill, front, size, whole};
 use link::receive_step;
 use link_state::{Link, Moment};
 use opening::Clock;
 use packet::{Arrival, NONCE};
+use std::io::{self, Read};
 
 // The clock difference that a Nonce's body gives.
-fn print_clock(body: &[u8], moment: Moment) {
+fn print_clock(out: &impl Print, body: &[u8], moment: Moment) -> io::Result<()> {
     match opening::clock_difference(body, moment) {
         Clock::Near(difference) => {
-            bytes(b" clock");
-            signed(difference);
+            print!(out; " clock")?;
+            signed(out, difference)
         }
-        Clock::Far => {}
+        Clock::Far => Ok(()),
     }
 }
 
-fn print_answer(answer: Arrival, s: &[u8], moment: Moment) {
+fn print_answer(out: &impl Print, answer: Arrival, s: &[u8], moment: Moment) -> io::Result<()> {
     match answer {
         Arrival::Incomplete(more) => {
-            bytes(b"wait");
-            number(more as u64);
+            print!(out; "wait")?;
+            number(out, more as u64)
         }
         Arrival::Packet {
             kind,
@@ -31,39 +31,45 @@ fn print_answer(answer: Arrival, s: &[u8], moment: Moment) {
             at,
             len,
         } => {
-            bytes(b"packet");
-            hexadecimal(kind);
-            number(consumed as u64);
-            number(at as u64);
-            number(len as u64);
+            print!(out; "packet")?;
+            hexadecimal(out, kind)?;
+            number(out, consumed as u64)?;
+            number(out, at as u64)?;
+            number(out, len as u64)?;
             if kind == NONCE {
-                print_clock(packet::body(s, answer), moment);
+                print_clock(out, packet::body(s, answer), moment)?;
             }
+            Ok(())
         }
-        Arrival::Refused(n) => refused(n),
+        Arrival::Refused(n) => refused(out, n),
     }
 }
 
 // Our time (4), n (4), n bytes.
-pub(crate) fn receive(link: Link, lent: &mut [u8]) -> Turn {
+pub(crate) fn receive(
+    input: &mut impl Read,
+    out: &impl Print,
+    link: Link,
+    lent: &mut [u8],
+) -> io::Result<Turn> {
     let mut head = [0u8; 8];
-    if io::read_full(STDIN_FILENO, &mut head) < 8 {
-        return Turn { link, more: false };
+    if !whole(input, &mut head)? {
+        return Ok(Turn { link, more: false });
     }
     let moment = Moment {
         time: wire::u32_at(&head, 0),
     };
     let n = size(wire::u32_at(&head, 4));
-    if !fill(lent, n) {
-        return Turn { link, more: false };
+    if !fill(input, lent, n)? {
+        return Ok(Turn { link, more: false });
     }
     let s = front(lent, n);
     let r = receive_step(link, s, moment);
     let answer = r.answer;
     let next = r.link;
-    print_answer(answer, s, moment);
-    Turn {
+    print_answer(out, answer, s, moment)?;
+    Ok(Turn {
         link: next,
         more: true,
-    }
+    })
 }

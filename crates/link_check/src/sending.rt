@@ -1,16 +1,16 @@
 // Operation 2: a send call.
 use crate::Turn;
-use crate::print::{bytes, hexadecimal, number, refused};
-use crate::space::{fill, front, least, size};
+use crate::print::{hexadecimal, number, refused};
+use crate::space::{fill, front, least, size, whole};
 use handshake_in::NetPid;
 use invoke::{Actor, Timeout};
-use libc::STDIN_FILENO;
 use link_state::{Link, Moment};
 use message_out::Outgoing;
 use nonce_out::Drawn;
 use packet_out::Sent;
 use send::{ToSend, send_step};
 use send_rules::Step;
+use std::io::{self, Read};
 
 fn actor_of(given: u8, actor: i64) -> Actor {
     if given == 1 {
@@ -76,14 +76,19 @@ fn what_of(head: &[u8]) -> ToSend {
 }
 
 // Both checksums, since one over a packet that ends with itself is the same for every packet.
-pub(crate) fn print_answer(word: &[u8], answer: Sent, buffer: &[u8]) {
+pub(crate) fn print_answer(
+    out: &impl Print,
+    word: &str,
+    answer: Sent,
+    buffer: &[u8],
+) -> io::Result<()> {
     match answer {
-        Sent::Refused(n) => refused(n),
+        Sent::Refused(n) => refused(out, n),
         Sent::Written(k) => {
-            bytes(word);
-            number(k as u64);
-            hexadecimal(checksum::crc32(buffer));
-            hexadecimal(checksum::crc32c(buffer));
+            print!(out; "{word}")?;
+            number(out, k as u64)?;
+            hexadecimal(out, checksum::crc32(buffer))?;
+            hexadecimal(out, checksum::crc32c(buffer))
         }
     }
 }
@@ -108,29 +113,34 @@ fn call(link: Link, buffer: &mut [u8], head: &[u8], payload: &[u8]) -> Step {
 }
 
 // The call on a buffer of as many bytes as head tells, and its line.
-fn call_and_print(link: Link, head: &[u8], payload: &[u8]) -> Link {
+fn call_and_print(out: &impl Print, link: Link, head: &[u8], payload: &[u8]) -> io::Result<Link> {
     let mut space = [0xa5u8; 81920];
     let buffer: &mut [u8] = &mut space;
     let room = least(size(wire::u32_at(head, 53)), buffer.len());
     let r = call(link, &mut buffer[0..room], head, payload);
     let answer = r.answer;
-    print_answer(b"sent", answer, front(buffer, room));
-    r.link
+    print_answer(out, "sent", answer, front(buffer, room))?;
+    Ok(r.link)
 }
 
 // Kind (1), time (4), random (16), own NetPID (12), peer's (12), Ping's ID (8), room (4), the fields of a message (28), n (4),
 // n bytes.
-pub(crate) fn send_record(link: Link, lent: &mut [u8]) -> Turn {
+pub(crate) fn send_record(
+    input: &mut impl Read,
+    out: &impl Print,
+    link: Link,
+    lent: &mut [u8],
+) -> io::Result<Turn> {
     let mut head = [0u8; 89];
-    if io::read_full(STDIN_FILENO, &mut head) < 89 {
-        return Turn { link, more: false };
+    if !whole(input, &mut head)? {
+        return Ok(Turn { link, more: false });
     }
     let n = size(wire::u32_at(&head, 85));
-    if !fill(lent, n) {
-        return Turn { link, more: false };
+    if !fill(input, lent, n)? {
+        return Ok(Turn { link, more: false });
     }
-    Turn {
-        link: call_and_print(link, &head, front(lent, n)),
+    Ok(Turn {
+        link: call_and_print(out, link, &head, front(lent, n))?,
         more: true,
-    }
+    })
 }

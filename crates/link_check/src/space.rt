@@ -1,7 +1,7 @@
 // The front of a lent buffer.
 ghost use Rattle.std.specs.Prelude.{◌≤◌};
 
-use libc::STDIN_FILENO;
+use std::io::{self, ErrorKind, Read};
 
 pub(crate) fn size(x: u32) -> usize {
     x as usize
@@ -19,10 +19,19 @@ pub(crate) fn front<'a>(lent: &'a [u8], n: usize) -> &'a [u8] {
     &lent[0..end]
 }
 
-// Reads n bytes to the front of lent; false where there are not so many.
-pub(crate) fn fill(lent: &mut [u8], n: usize) -> bool {
-    if lent.len() < n {
-        return false;
+// Fills the buffer; false where the input ends before.
+pub(crate) fn whole(input: &mut impl Read, buf: &mut [u8]) -> io::Result<bool> {
+    match input.read_exact(buf) {
+        Ok(()) => Ok(true),
+        Err(e) if e.kind() == ErrorKind::UnexpectedEof => Ok(false),
+        Err(e) => Err(e),
     }
-    io::read_full(STDIN_FILENO, &mut lent[0..n]) == n
+}
+
+// Reads n bytes to the front of lent; false where there are not so many.
+pub(crate) fn fill(input: &mut impl Read, lent: &mut [u8], n: usize) -> io::Result<bool> {
+    if lent.len() < n {
+        return Ok(false);
+    }
+    whole(input, &mut lent[0..n])
 }
