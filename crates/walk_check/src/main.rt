@@ -1,18 +1,15 @@
-// Runs of the relay walk on fresh tables. A run on standard input is a first number N (8 bytes, signed), a size m (4 bytes) and m bytes
-// of events. It prints `run N`, then `no 30` where N is below 1, else the lines of the walk over these events on a table that starts at N.
+// Runs of the relay walk on fresh tables. A run on standard input is a first number N (8 bytes, signed), a size m
+// (4 bytes) and m bytes of events. It prints `run N`, then `no 30` where N is below 1, else the lines of the walk over
+// these events on a table that starts at N.
 #![tactic(auto)]
 
 ghost use Rattle.std.specs.Prelude.{◌≤◌};
 
 use inflight::{FreshAnswer, PublisherNumber};
-use libc::{STDIN_FILENO, STDOUT_FILENO};
+use std::io::{self, ErrorKind, Read};
 
 fn size(x: u32) -> usize {
     x as usize
-}
-
-fn wide(x: u8) -> u64 {
-    x as u64
 }
 
 fn least(a: usize, b: usize) -> usize
@@ -22,21 +19,16 @@ fn least(a: usize, b: usize) -> usize
 }
 
 // `run` and the signed number that has these bits.
-fn print_run(bits: u64) {
-    io::write_all(STDOUT_FILENO, b"run ");
+fn print_run(out: &impl Print, bits: u64) -> io::Result<()> {
     if bits < 0x8000_0000_0000_0000 {
-        io::print_decimal(STDOUT_FILENO, bits);
-    } else {
-        io::write_all(STDOUT_FILENO, b"-");
-        io::print_decimal(STDOUT_FILENO, 0xffff_ffff_ffff_ffff - bits + 1);
+        return println!(out; "run {bits}");
     }
-    io::write_all(STDOUT_FILENO, b"\n");
+    let far = 0xffff_ffff_ffff_ffff - bits + 1;
+    println!(out; "run -{far}")
 }
 
-fn print_refusal(no: u8) {
-    io::write_all(STDOUT_FILENO, b"no ");
-    io::print_decimal(STDOUT_FILENO, wide(no));
-    io::write_all(STDOUT_FILENO, b"\n");
+fn print_refusal(out: &impl Print, no: u8) -> io::Result<()> {
+    println!(out; "no {no}")
 }
 
 // The lines of all events, as many as the buffer has room for at a time.
@@ -47,8 +39,9 @@ fn print_walk(
     order: &mut [u8; 64],
     times: &mut [u64; 65],
     events: &[u8],
-    out: &mut [u8],
-) {
+    text: &mut [u8],
+    out: &impl Print,
+) -> io::Result<()> {
     let mut at: usize = 0;
     let mut turns = events.len();
     while 0 < turns {
@@ -61,33 +54,48 @@ fn print_walk(
             order,
             times,
             &events[from..],
-            out,
+            text,
             true,
         );
-        let written = least(r.written, out.len());
-        io::write_all(STDOUT_FILENO, &out[0..written]);
+        let written = least(r.written, text.len());
+        out.write_all(&text[0..written])?;
         if r.stopped {
-            return;
+            return Ok(());
         }
         let used = least(r.consumed, events.len() - from);
         if used == 0 {
-            return;
+            return Ok(());
         }
         at = from + used;
+    }
+    Ok(())
+}
+
+// Fills the buffer; false where the input ends before.
+fn fill(input: &mut impl Read, buf: &mut [u8]) -> io::Result<bool> {
+    match input.read_exact(buf) {
+        Ok(()) => Ok(true),
+        Err(e) if e.kind() == ErrorKind::UnexpectedEof => Ok(false),
+        Err(e) => Err(e),
     }
 }
 
 // Reads a run and prints its lines; false at the end.
-fn run(events: &mut [u8], out: &mut [u8]) -> bool {
+fn run(
+    input: &mut impl Read,
+    events: &mut [u8],
+    text: &mut [u8],
+    out: &impl Print,
+) -> io::Result<bool> {
     let mut head = [0u8; 12];
-    if io::read_full(STDIN_FILENO, &mut head) < 12 {
-        return false;
+    if !fill(input, &mut head)? {
+        return Ok(false);
     }
     let m = least(size(wire::u32_at(&head, 8)), events.len());
-    if io::read_full(STDIN_FILENO, &mut events[0..m]) < m {
-        return false;
+    if !fill(input, &mut events[0..m])? {
+        return Ok(false);
     }
-    print_run(wire::u64_at(&head, 0));
+    print_run(out, wire::u64_at(&head, 0))?;
     let mut masks = [0u64; 9];
     let mut numbers = [0i64; 136];
     let mut places = [0u8; 128];
@@ -100,7 +108,7 @@ fn run(events: &mut [u8], out: &mut [u8]) -> bool {
         PublisherNumber(wire::i64_at(&head, 0)),
     );
     match answer {
-        FreshAnswer::Refused(no) => print_refusal(no),
+        FreshAnswer::Refused(no) => print_refusal(out, no)?,
         FreshAnswer::Ready => print_walk(
             &mut masks,
             &mut numbers,
@@ -108,22 +116,23 @@ fn run(events: &mut [u8], out: &mut [u8]) -> bool {
             &mut order,
             &mut times,
             &events[0..m],
+            text,
             out,
-        ),
+        )?,
     }
-    true
+    Ok(true)
 }
 
-fn main() {
-    let mut in_space = io::large_buffer();
+fn main(rt: HostRuntime) -> io::Result<()> {
+    let mut in_space = [0u8; 65536];
     let events: &mut [u8] = &mut in_space;
-    let mut out_space = io::large_buffer();
-    let out: &mut [u8] = &mut out_space;
-    let mut turns = u64::MAX;
-    while 0 < turns {
-        turns -= 1;
-        if !run(events, out) {
-            return;
+    let mut text_space = [0u8; 65536];
+    let text: &mut [u8] = &mut text_space;
+    let mut input = rt.reader();
+    for _ in 0..u64::MAX {
+        if !run(&mut input, events, text, &rt)? {
+            break;
         }
     }
+    Ok(())
 }
