@@ -7,6 +7,7 @@ use checksum::crc32;
 use key_front::{End, Ends};
 use key_message::InitMessage;
 use link_keys::{Derived, derive};
+use std::io::{self, Read};
 use store_bytes::copy;
 use wire::{part, u8_at, u16_at, u32_at};
 
@@ -42,24 +43,24 @@ fn vector_of(r: Derived) -> [u8; 16] {
     v
 }
 
-fn answer(r: Derived, buf: &[u8]) {
+fn answer(out: &impl Print, r: Derived, buf: &[u8]) -> io::Result<()> {
     let a = r.answer;
     match a {
-        InitMessage::Refused(n) => print::refused(n),
+        InitMessage::Refused(n) => print::refused(out, n)?,
         InitMessage::Size(n) => {
             let k = key_of(r);
             let v = vector_of(r);
-            print::decimal(n as u64);
-            print::hexadecimal(part(buf, 0, n));
-            print::hexadecimal(&k);
-            print::hexadecimal(&v);
+            print!(out; "{n}")?;
+            print::hexadecimal(out, part(buf, 0, n))?;
+            print::hexadecimal(out, &k)?;
+            print::hexadecimal(out, &v)?;
         }
     }
-    print::sum(crc32(buf));
-    print::bytes(b"\n");
+    print::sum(out, crc32(buf))?;
+    println!(out)
 }
 
-fn line(head: &[u8], key: &[u8], buf: &mut [u8]) {
+fn line(out: &impl Print, head: &[u8], key: &[u8], buf: &mut [u8]) -> io::Result<()> {
     let s = Ends {
         client: end_of(part(head, 2, 26)),
         server: end_of(part(head, 28, 26)),
@@ -67,25 +68,25 @@ fn line(head: &[u8], key: &[u8], buf: &mut [u8]) {
     let shared = array32(part(head, 54, 32));
     fill(buf, u8_at(head, 90));
     let r = derive(buf, u8_at(head, 0), u8_at(head, 1) == 1, s, key, shared);
-    answer(r, buf);
+    answer(out, r, buf)
 }
 
-pub(crate) fn record() -> bool {
+pub(crate) fn record(input: &mut impl Read, out: &impl Print) -> io::Result<bool> {
     let mut head = [0u8; 95];
-    if !read(&mut head, 95) {
-        return false;
+    if !read(input, &mut head, 95)? {
+        return Ok(false);
     }
     let room = length_at(&head, 86);
     let n = length_at(&head, 91);
     if MOST < room {
-        return false;
+        return Ok(false);
     }
     let mut space = [0u8; 8192];
-    if !read(&mut space, n) {
-        return false;
+    if !read(input, &mut space, n)? {
+        return Ok(false);
     }
     let mut more = [0u8; 8192];
     let buf: &mut [u8] = &mut more;
-    line(&head, part(&space, 0, n), &mut buf[0..room]);
-    true
+    line(out, &head, part(&space, 0, n), &mut buf[0..room])?;
+    Ok(true)
 }

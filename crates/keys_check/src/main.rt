@@ -10,26 +10,29 @@ mod print;
 mod set_ups;
 mod space;
 
-use libc::STDIN_FILENO;
+use std::io::{self, Read};
 
 // Reads a record and prints its line; false at the end.
-fn record() -> bool {
+fn record(input: &mut impl Read, out: &impl Print) -> io::Result<bool> {
     let mut kind = [0u8; 1];
-    if io::read_full(STDIN_FILENO, &mut kind) < 1 {
-        return false;
+    if !space::whole(input, &mut kind)? {
+        return Ok(false);
     }
     match kind[0] {
-        1 => digests::record(),
-        2 => derivations::record(),
-        3 => set_ups::record(),
-        4 => nonces::record(),
-        _ => false,
+        1 => digests::record(input, out),
+        2 => derivations::record(input, out),
+        3 => set_ups::record(input, out),
+        4 => nonces::record(input, out),
+        _ => Ok(false),
     }
 }
 
-fn main() {
-    let mut turns = u64::MAX;
-    while turns > 0 && record() {
-        turns -= 1;
+fn main(rt: HostRuntime) -> io::Result<()> {
+    let mut input = rt.reader();
+    for _ in 0..u64::MAX {
+        if !record(&mut input, &rt)? {
+            break;
+        }
     }
+    Ok(())
 }

@@ -3,44 +3,43 @@
 use super::print;
 use super::space::{length_at, read};
 use nonce_in::{NonceFields, NonceRead, Place, nonce_fields};
+use std::io::{self, Read};
 use wire::part;
 
-fn held(body: &[u8], p: Place) {
+fn held(out: &impl Print, body: &[u8], p: Place) -> io::Result<()> {
     if p.len == 0 {
-        print::bytes(b" -");
+        print!(out; " -")
     } else {
-        print::hexadecimal(part(body, p.at, p.len));
+        print::hexadecimal(out, part(body, p.at, p.len))
     }
 }
 
-fn fields(body: &[u8], f: NonceFields) {
-    print::decimal(f.version as u64);
-    print::bytes(b" ");
-    print::decimal(f.time as u64);
+fn fields(out: &impl Print, body: &[u8], f: NonceFields) -> io::Result<()> {
+    print!(out; "{} {}", f.version, f.time)?;
     let random = f.random;
-    held(body, random);
+    held(out, body, random)?;
     let point = f.point;
-    held(body, point);
+    held(out, body, point)
 }
 
-fn line(body: &[u8]) {
+fn line(out: &impl Print, body: &[u8]) -> io::Result<()> {
     match nonce_fields(body) {
-        NonceRead::Fields(f) => fields(body, f),
-        NonceRead::Refused(n) => print::refused(n),
+        NonceRead::Fields(f) => fields(out, body, f)?,
+        NonceRead::Refused(n) => print::refused(out, n)?,
     }
-    print::bytes(b"\n");
+    println!(out)
 }
 
-pub(crate) fn record() -> bool {
+pub(crate) fn record(input: &mut impl Read, out: &impl Print) -> io::Result<bool> {
     let mut head = [0u8; 4];
-    if !read(&mut head, 4) {
-        return false;
+    if !read(input, &mut head, 4)? {
+        return Ok(false);
     }
     let n = length_at(&head, 0);
     let mut space = [0u8; 8192];
-    if !read(&mut space, n) {
-        return false;
+    if !read(input, &mut space, n)? {
+        return Ok(false);
     }
-    line(part(&space, 0, n));
-    true
+    line(out, part(&space, 0, n))?;
+    Ok(true)
 }

@@ -1,36 +1,21 @@
 // Text on standard output.
-use libc::STDOUT_FILENO;
-
-pub(crate) fn bytes(s: &[u8]) {
-    io::write_all(STDOUT_FILENO, s);
-}
-
-pub(crate) fn decimal(n: u64) {
-    io::print_decimal(STDOUT_FILENO, n);
-}
+use std::io;
 
 // A refusal, without the end of its line.
-pub(crate) fn refused(n: u8) {
-    bytes(b"no ");
-    decimal(n as u64);
-}
-
-fn byte(b: u8) {
-    io::print_hex(STDOUT_FILENO, b as u64, 2);
+pub(crate) fn refused(out: &impl Print, n: u8) -> io::Result<()> {
+    print!(out; "no {n}")
 }
 
 // A space and two hexadecimal digits for each byte.
-pub(crate) fn hexadecimal(s: &[u8]) {
-    bytes(b" ");
-    let mut i = 0;
-    while i < s.len() {
-        byte(s[i]);
-        i += 1;
+pub(crate) fn hexadecimal(out: &impl Print, s: &[u8]) -> io::Result<()> {
+    print!(out; " ")?;
+    for b in s {
+        print!(out; "{b:02x}")?;
     }
+    Ok(())
 }
 
 // A space and a checksum.
-pub(crate) fn sum(n: u32) {
-    bytes(b" ");
-    io::print_hex(STDOUT_FILENO, n as u64, 8);
+pub(crate) fn sum(out: &impl Print, n: u32) -> io::Result<()> {
+    print!(out; " {n:08x}")
 }

@@ -3,33 +3,34 @@
 use super::print;
 use super::space::{length_at, read};
 use link_state::{Link, SetUp, Settings, set_up_with_key};
+use std::io::{self, Read};
 use store::put_u32;
 use wire::part;
 
-fn ready(link: Link) {
+fn ready(out: &impl Print, link: Link) -> io::Result<()> {
     let mut id = [0u8; 4];
     put_u32(&mut id, 0, link.keyid);
-    print::bytes(b"link");
-    print::hexadecimal(&id);
+    print!(out; "link")?;
+    print::hexadecimal(out, &id)
 }
 
-fn line(set: Settings, key: &[u8]) {
+fn line(out: &impl Print, set: Settings, key: &[u8]) -> io::Result<()> {
     match set_up_with_key(set, key) {
-        SetUp::Ready(link) => ready(link),
-        SetUp::Refused(n) => print::refused(n),
+        SetUp::Ready(link) => ready(out, link)?,
+        SetUp::Refused(n) => print::refused(out, n)?,
     }
-    print::bytes(b"\n");
+    println!(out)
 }
 
-pub(crate) fn record() -> bool {
+pub(crate) fn record(input: &mut impl Read, out: &impl Print) -> io::Result<bool> {
     let mut head = [0u8; 8];
-    if !read(&mut head, 8) {
-        return false;
+    if !read(input, &mut head, 8)? {
+        return Ok(false);
     }
     let n = length_at(&head, 4);
     let mut space = [0u8; 8192];
-    if !read(&mut space, n) {
-        return false;
+    if !read(input, &mut space, n)? {
+        return Ok(false);
     }
     let set = Settings {
         server: head[0] == 1,
@@ -39,6 +40,6 @@ pub(crate) fn record() -> bool {
         cipher: false,
         only: false,
     };
-    line(set, part(&space, 0, n));
-    true
+    line(out, set, part(&space, 0, n))?;
+    Ok(true)
 }

@@ -1,16 +1,25 @@
 // Bytes of a record.
-use libc::STDIN_FILENO;
+use std::io::{self, ErrorKind, Read};
 use wire::u32_at;
 
 // The longest input, key and buffer.
 pub(crate) const MOST: usize = 8192;
 
-// Reads n bytes to the front of the space, and says whether they were there and fit it.
-pub(crate) fn read(space: &mut [u8], n: usize) -> bool {
-    if space.len() < n {
-        return false;
+// Fills all of the buffer; false where the input ends before.
+pub(crate) fn whole(input: &mut impl Read, buf: &mut [u8]) -> io::Result<bool> {
+    match input.read_exact(buf) {
+        Ok(()) => Ok(true),
+        Err(e) if e.kind() == ErrorKind::UnexpectedEof => Ok(false),
+        Err(e) => Err(e),
     }
-    io::read_full(STDIN_FILENO, &mut space[0..n]) == n
+}
+
+// Reads n bytes to the front of the space, and says whether they were there and fit it.
+pub(crate) fn read(input: &mut impl Read, space: &mut [u8], n: usize) -> io::Result<bool> {
+    if space.len() < n {
+        return Ok(false);
+    }
+    whole(input, &mut space[0..n])
 }
 
 // The length at an offset of a record.
