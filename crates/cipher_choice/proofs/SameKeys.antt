@@ -5,16 +5,12 @@ use mathlib.Core.Bool.{Bool, true, false, ◌&&◌}
 use mathlib.Core.List.{List}
 use Prim.Native.Nat.{ℕ}
 use lib.ListN.{replicate}
-use Rattle.wire.specs.Bytes.{within}
 use Rattle.wire.specs.Choice.{pick}
-use Rattle.link_state.specs.declared.Link.{Link}
 use Rattle.link_state.specs.declared.Moment.{Moment}
 use Rattle.link_state.specs.SetUp.{fresh_of}
 use Rattle.nonce_out.specs.Nonce.{version_of}
 use Rattle.nonce_in.specs.Fields.{point_place, nonce_of}
 use Rattle.nonce_in.specs.declared.NonceRead.{NonceRead}
-use Rattle.nonce_in.specs.declared.NonceRead.TheVariants.{Fields}
-use Rattle.key_front.specs.declared.End.{End}
 use Rattle.pair.specs.Opens.{Choices, made_of, both_of, Meet, Caller, Able}
 use Rattle.pair.proofs.Opening.{got1}
 use Rattle.pair.proofs.NonceBack.{Tells, server-reads, client-reads}

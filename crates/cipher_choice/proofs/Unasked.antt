@@ -1,11 +1,11 @@
 -- The cipher is never chosen unasked, and never left out where it alone is asked for, whatever bytes the other side
 -- sends and whatever calls are made. Assumes nothing.
 use native.Mathlib.Omega.{arith}
-use mathlib.Core.Path.{◌≡◌, refl, ap, subst, ◌∙◌}
-use mathlib.Core.Bool.{Bool, true, false, not, ◌&&◌}
+use mathlib.Core.Path.{◌≡◌, refl, ap, ◌∙◌}
+use mathlib.Core.Bool.{Bool, true, false, not}
 use mathlib.Core.List.{List, [], ◌∷◌}
 use mathlib.Core.Option.{Option}
-use Prim.Native.Nat.{ℕ, ◌*◌, ◌≤◌}
+use Prim.Native.Nat.{ℕ, ◌≤◌}
 use lib.ListN.{length}
 use lib.Dec.{ltb, eqb}
 use Rattle.wire.specs.Choice.{pick}
@@ -14,20 +14,18 @@ use Rattle.link_state.specs.declared.Settings.{Settings}
 use Rattle.link_state.specs.declared.Moment.{Moment}
 use Rattle.link_state.specs.declared.SetUp.TheVariants.{Ready}
 use Rattle.link_state.specs.SetUp.{fresh_of, key_id_of, set_up_of}
-use Rattle.link_state.specs.Turn.{may_send, stage_after}
 use Rattle.link_state.proofs.SetUpLaws.{set-up-took}
 use Rattle.link_cipher.specs.Chosen.{encryption_at, server_refuses, client_refuses}
 use Rattle.link_cipher.specs.Chosen.{encryption_refused, chosen_of, cipher_refused}
 use Rattle.packet.specs.Allowed.{allowed_of, refuses}
-use Rattle.packet_out.specs.Size.{size_of}
 use Rattle.opening.specs.Clock.{near_of}
 use Rattle.opening.specs.Nonce.{least_of, version_at, beyond_of, nonce_refusal}
 use Rattle.link_next.specs.Next.{closed_of, ciphered_after, after_of}
 use Rattle.link.specs.Receive.{body_refusal}
 use Rattle.send_rules.specs.Sent.{sent_of}
 use Rattle.send_rules.specs.declared.Step.{Step}
-use Rattle.flush.specs.Flush.{words_due, flushed_of}
-use Rattle.link_calls.specs.Calls.{Call, receives, sends, flushes, after_call, after_calls, type_of}
+use Rattle.flush.specs.Flush.{flushed_of}
+use Rattle.link_calls.specs.Calls.{Call, receives, sends, flushes, after_call, after_calls}
 use Rattle.link_calls.proofs.Ways.{refuses-none, receive-ways, send-ways, flush-ways}
 use Rattle.link_versions.specs.Heard.{heard_from}
 use Rattle.link_versions.proofs.Accepted.{past-nonces}

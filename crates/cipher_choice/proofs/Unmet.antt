@@ -4,12 +4,11 @@ use borrow.Author.Tests.{le-ltb}
 use mathlib.Core.Path.{◌≡◌, refl, ap, ◌∙◌}
 use mathlib.Core.Bool.{Bool, true, false, not, ◌&&◌}
 use mathlib.Core.List.{List}
-use Prim.Native.Nat.{ℕ, ◌+◌, ◌≤◌, ◌<◌, ◌^◌}
+use Prim.Native.Nat.{ℕ, ◌≤◌, ◌<◌, ◌^◌}
 use lib.ListN.{length, drop, replicate}
 use lib.Dec.{eqb, lit<}
 use Rattle.wire.specs.Choice.{pick}
 use Rattle.link_state.specs.declared.Link.{Link}
-use Rattle.link_state.specs.declared.Settings.{Settings}
 use Rattle.link_state.specs.SetUp.{fresh_of}
 use Rattle.link_state.specs.Turn.{may_send}
 use Rattle.link_cipher.specs.Offered.{offer_of, encryption_of, offers_or_takes, sent_key_id, sent_point}
@@ -27,13 +26,11 @@ use Rattle.opening.specs.Nonce.{least_of, nonce_refusal}
 use Rattle.link.specs.Look.{turn_refusal}
 use Rattle.link_next.specs.Next.{closes_of, closed_of, refused_of}
 use Rattle.link.specs.Receive.{body_refusal, gives, refuse, receive_of}
-use Rattle.send_rules.specs.Control.{send_refusal, control_answer, control_step, step_by}
-use Rattle.send_rules.specs.declared.Step.{Step}
+use Rattle.send_rules.specs.Control.{send_refusal, control_answer, control_step}
 use Rattle.nonce_out.specs.Nonce.{version_of, nonce_body, our_nonce, nonce_step, nonce_buffer}
 use Rattle.nonce_out.proofs.BodyLaws.{length-nonce, nonce-key-id, nonce-cipher, nonce-version, nonce-time}
 use Rattle.nonce_out.proofs.SentLaws.{nonce-left}
-use Rattle.pair.specs.Awaits.{Awaits}
-use Rattle.pair.specs.Opens.{Choices, settings_of, made_of, both_of, Caller, Able}
+use Rattle.pair.specs.Opens.{Choices, settings_of, made_of, Caller, Able}
 use Rattle.pair.proofs.RoundTrip.{body_refused}
 use Rattle.pair.proofs.NoncePasses.{near, small-nonce, offer-small, pick_small, point-length, point-small}
 use Rattle.cipher_choice.specs.Nine.{nine_of}
