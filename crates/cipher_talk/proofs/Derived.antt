@@ -8,17 +8,14 @@ use mathlib.Core.List.{List}
 use mathlib.Core.Option.{some}
 use Prim.Native.Nat.{ℕ, ◌+◌, ◌≤◌, ◌<◌, ◌^◌}
 use lib.ListN.{length}
-use lib.Dec.{ltb, eqb}
-use Rattle.wire.specs.Bytes.{le, part}
+use lib.Dec.{ltb}
 use Rattle.wire.specs.Choice.{pick}
 use Rattle.wire.proofs.ByteLaws.{Small, le-lt}
 use Rattle.link_state.specs.declared.Link.{Link}
 use Rattle.link_state.specs.declared.SetUp.TheVariants.{Ready}
-use Rattle.link_state.specs.SetUp.{fresh_of, key_id_of, key_unsuitable, key_refused, set_up_of}
+use Rattle.link_state.specs.SetUp.{key_id_of, key_unsuitable, key_refused, set_up_of}
 use Rattle.link_state.proofs.SetUpLaws.{set-up-took}
-use Rattle.key_message.specs.declared.InitMessage.{InitMessage}
 use Rattle.key_message.specs.declared.InitMessage.TheVariants.{Size}
-use Rattle.key_message.specs.Message.{message}
 use Rattle.link_keys.specs.Keys.{with_keys}
 use Rattle.link_keys.specs.declared.Derived.{Derived}
 use Rattle.pair.specs.Opens.{Choices, settings_of, made_of, both_of, Meet, Caller, Able}

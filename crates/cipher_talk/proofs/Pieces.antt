@@ -219,5 +219,5 @@ any-pieces {k} {k2} {s} {t} {gs} c h p (q ∷ qs) e =
     let g = advance c (length (h ++ p.bytes)) (h ++ p.bytes) (joined (q ∷ qs))
     (append_assoc h p.bytes (joined (q ∷ qs)) ∙ e) p.clock in
     ap (λ (r : Drained). record { link = r.link; got = d.got ++ r.got; left = r.left })
-    (any-pieces g.comes d.left q qs refl)
+    (any-pieces {k = d.link} g.comes d.left q qs refl)
     ∙ ap (λ (z : List Got). record { link = k2; got = z; left = t }) (sym g.split)

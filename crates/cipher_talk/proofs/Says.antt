@@ -242,11 +242,11 @@ sent-open l kind n h = rw (stays l.stage h) h
 
 sent-ciphered : (l : Link) (kind n : ℕ) → (sent_of l kind 0 n).ciphered ≡ l.ciphered
 unfolding sent_of
-sent-ciphered l kind n = refl
+sent-ciphered l _ n = refl
 
 sent-phase : (l : Link) (kind n : ℕ) → (sent_of l kind 0 n).phase ≡ phase_after l n
 unfolding sent_of
-sent-phase l kind n = refl
+sent-phase l _ n = refl
 
 none : (l : Link) → l.phase < 4 → Size l []
 unfolding says

@@ -1,7 +1,7 @@
 -- Between two flushes a ciphered link writes whole blocks, whatever calls are made: enciphering them is never refused with
 -- 37. Assumes nothing.
 use native.Mathlib.Omega.{arith}
-use mathlib.Core.Path.{◌≡◌, refl, ap, sym, subst, ◌∙◌}
+use mathlib.Core.Path.{◌≡◌, refl, ap, subst, ◌∙◌}
 use mathlib.Core.Bool.{true}
 use mathlib.Core.List.{List, [], ◌∷◌, ◌++◌}
 use Prim.Native.Nat.{ℕ, ◌+◌, ◌%◌}
@@ -9,7 +9,6 @@ use lib.ListN.{length}
 use Rattle.aes.specs.Cbc.{encipher_answer}
 use Rattle.aes.specs.declared.Answer.TheVariants.{Done}
 use Rattle.cipher_laws.proofs.Calls.{done-forth}
-use Rattle.link_state.specs.declared.Link.{Link}
 use Rattle.link_state.specs.declared.Settings.{Settings}
 use Rattle.packet_out.specs.declared.Sent.TheVariants.{Written}
 use Rattle.flush.specs.Flush.{flush_step}
