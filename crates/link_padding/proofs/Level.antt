@@ -316,30 +316,30 @@ module _ (set : Settings) (keyid : ℕ) (cs : List Call) where
       go true = refl
       go false = refl
 
-  module _ (padded : padded_of made.link ≡ true) where
-    abbrev holds : Holds set made
-    holds = always.counts-if padded
+  abbrev holds : padded_of made.link ≡ true → Holds set made
+  holds padded = always.counts-if padded
 
+  module _ (padded : padded_of made.link ≡ true) where
     -- COUNTED: the link's count is that of the bytes since the first byte of our Handshake, which are whole words
     pub counted : (made.link.phase ≡ made.bytes / 4 % 4) × (made.bytes % 4 ≡ 0)
-    counted = (holds.phase, holds.words)
+    counted = ((holds padded).phase, (holds padded).words)
 
     -- LEVEL: a flush that is accepted leaves a multiple of 16 bytes since the first byte of our Handshake
     pub level : (room n : ℕ) → (flush_step made.link room).answer ≡ Written n
         → (called made (flushes room)).bytes % 16 ≡ 0
-    level room n e = level-at set made padded holds room n e
+    level room n e = level-at set made padded (holds padded) room n e
 
     -- NONE BEFORE: before our Handshake a flush writes nothing
     pub none_before : made.begun ≡ false → (room n : ℕ) → (flush_step made.link room).answer ≡ Written n → n ≡ 0
     none_before early room n e =
-        omega (arith, flush-size made.link room n e, due-is set made padded holds false early)
+        omega (arith, flush-size made.link room n e, due-is set made padded (holds padded) false early)
 
     -- FEW WORDS: between two packets of ours, whatever is received and however often it is flushed, at most three
     -- words go out
     pub few_words : (ds : List Call) → Quiet ds → (after made ds).bytes ≤ made.bytes + 12
     few_words ds q =
         let n = near set made always ds q ((made.bytes + 15) / 16 * 16) (omega arith) (omega arith) in
-        omega (arith, holds.words, n)
+        omega (arith, (holds padded).words, n)
 
 -- NONE UNPADDED: a link that is not padded writes no words
 pub none-unpadded : (l : Link) → padded_of l ≡ false → (room n : ℕ) → (flush_step l room).answer ≡ Written n → n ≡ 0

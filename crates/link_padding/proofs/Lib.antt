@@ -4,3 +4,4 @@ pub mod Counts
 pub mod Level
 pub mod Before
 pub mod Flushed
+pub mod SentBehind

@@ -4,6 +4,6 @@
 // They speak of the definitions that the contracts of the crates below equate every call with, so they hold of the
 // code, after every list of calls (crate link_calls). The theorems to read are `counted`, `level`, `few_words` and
 // `none_before` (proofs/Level.antt, over specs/Tally.antt, which counts from the calls' answers alone),
-// `flushed-received` (proofs/Flushed.antt), and `as_before` (proofs/Before.antt, over specs/Before.antt, the rules
+// `flushed-received` (proofs/SentBehind.antt), and `as_before` (proofs/Before.antt, over specs/Before.antt, the rules
 // from before).
 #![tactic(auto)]
