@@ -1,13 +1,13 @@
--- Two links of ours never give each other 21: whatever Pings and Pongs they send, each that a send call accepts is
--- received, with messages in between or not; and two fresh links that open come to this. Assumes nothing.
+-- A Ping or a Pong of ours that a send call accepts is received by the peer, and the two links are alive after it, as they
+-- are after a packet of another type; and two fresh links that open come to this. Assumes nothing.
 use native.Mathlib.Omega.{arith}
 use borrow.Author.Tests.{eq-eqb, not-false}
-use mathlib.Core.Path.{◌≡◌, refl, ap, sym, ◌∙◌}
+use mathlib.Core.Path.{◌≡◌, refl, sym, ◌∙◌}
 use mathlib.Core.Bool.{Bool, true, false, not, ◌&&◌, false≢true}
-use mathlib.Core.List.{List, [], ◌∷◌, ◌++◌}
-use Prim.Native.Nat.{ℕ, ◌≤◌, ◌<◌, ◌^◌}
+use mathlib.Core.List.{List}
+use Prim.Native.Nat.{ℕ, ◌<◌, ◌^◌}
 use lib.ListN.{length}
-use lib.Dec.{eqb, ltb, lit<, lit≤}
+use lib.Dec.{eqb, lit<, lit≤}
 use Rattle.wire.specs.Bytes.{bytes}
 use Rattle.wire.specs.Choice.{pick}
 use Rattle.wire.proofs.ByteLaws.{length-bytes}
@@ -15,27 +15,21 @@ use Rattle.link_state.specs.declared.Link.{Link}
 use Rattle.link_state.specs.declared.Moment.{Moment}
 use Rattle.link_state.specs.Turn.{may_send}
 use Rattle.packet.specs.Allowed.{allowed_of, refuses}
-use Rattle.packet.specs.declared.Arrival.{Arrival}
 use Rattle.packet.specs.declared.Arrival.TheVariants.{Packet}
 use Rattle.packet_out.specs.Size.{size_of, fits_of}
-use Rattle.packet_out.specs.declared.Sent.{Sent}
 use Rattle.packet_out.specs.declared.Sent.TheVariants.{Written, Refused}
 use Rattle.link_next.specs.KeepAlive.{ping_refusal, pong_refusal, awaits_after, owes_after, owed_after}
 use Rattle.link_next.specs.Next.{after_of}
 use Rattle.link.specs.Receive.{body_refusal, gives, receive_of}
-use Rattle.link.specs.declared.Received.{Received}
 use Rattle.send_rules.specs.Sent.{awaits_sent, awaited_sent, owes_sent, sent_of}
-use Rattle.send_rules.specs.Control.{send_refusal, control_answer, step_by, control_step}
-use Rattle.send_rules.specs.declared.Step.{Step}
-use Rattle.send_rules.proofs.ControlLaws.{step-answer}
-use Rattle.keep_alive_out.specs.KeepAlive.{ping_step, ping_buffer, pong_step, pong_buffer}
+use Rattle.send_rules.specs.Control.{send_refusal, control_answer}
+use Rattle.keep_alive_out.specs.KeepAlive.{ping_buffer, pong_buffer}
 use Rattle.pair.specs.Opens.{Choices, made_of, both_of, Meet, open_of, Caller, Able, Opened, opens}
-use Rattle.pair.specs.KeepAlive.{exchange_of, KeptAlive, Owing, Alive, Call, AllFit, step_of, peer_by, heard_by, meant_by, along}
+use Rattle.pair.specs.KeepAlive.{Owing, Alive}
 use Rattle.pair.proofs.SumLaws.{small_bytes}
 use Rattle.pair.proofs.SentReceived.{sent-received}
 use Rattle.pair.proofs.StepAlike.{stays, awaits-again, awaits-still}
 use Rattle.pair.proofs.KeepAlive.{id-read, length-24, ping-allowed, pong-allowed}
-use Rattle.pair.proofs.KeptAlive.{size-24, ping-written, ping-heard, pong-written, pong-heard}
 use Rattle.pair.proofs.Opening.{opened, each-awaits}
 
 -- ---- a send that is accepted was in turn
@@ -54,16 +48,6 @@ not-busy l kind busy len room n e = go l.closed (not (may_send l.set.server l.st
     go false true a true h = cc
     go false false true true h = cc
     go false false false true h = cc
-
--- the size that is answered
-size_is : (l : Link) (kind : ℕ) (busy : Bool) (room n : ℕ) → control_answer l kind busy 8 room ≡ Written n → n ≡ 24
-unfolding control_answer fits_of
-size_is l kind busy room n e = go (refuses (send_refusal l kind busy)) (ltb room 24) (rw (size-24 l) at e)
-  where
-    go : (r u : Bool) → pick r (Refused (send_refusal l kind busy)) (pick u (Refused 16) (Written 24)) ≡ Written n → n ≡ 24
-    go true u h = cc
-    go false true h = cc
-    go false false h = cc
 
 -- ---- what a packet leaves of the two
 
@@ -142,59 +126,8 @@ module _ (l k : Link) (a : Alive l k) (m : Moment) where
         (owing-by l k (sent_of l 0x8430eaa7 0 n) (after_of k 0x8430eaa7 (bytes 8 l.owed) m) refl refl refl refl a.owing_k)
         (record { turn = refl; id = λ q. absurd (false≢true q); fits = a.owing_l.fits })
 
--- ---- one call of l
-
-alive-at : {l l2 k k2 : Link} → l2 ≡ l → k2 ≡ k → Alive l k → Alive l2 k2
-alive-at e f a = rw (e, f) a
-
-module _ (l k : Link) (a : Alive l k) (o : Bool) (id : ℕ) (fits : id < 2 ^ 64) (b : List ℕ) (m : Moment) where
-  abbrev call : Bool → Call
-  call p = record { ours = o; ping = p; id = id; buffer = b; moment = m }
-
-  -- it is heard as it was meant, and the two are alive after it
-  abbrev InTurn : Bool → Sent → Type 0
-  InTurn p x = (heard_by l (call p) k x ≡ meant_by l (call p) k x) × Alive (step_of l (call p)).link (peer_by l (call p) k x)
-
-  abbrev ping : Sent
-  ping = control_answer l 0x5730a2df l.awaits (length (bytes 8 id)) (length b)
-
-  abbrev pong : Sent
-  pong = control_answer l 0x8430eaa7 (not l.owes) (length (bytes 8 l.owed)) (length b)
-
-  ping-in-turn : (x : Sent) → ping ≡ x → InTurn true x
-  unfolding heard_by meant_by ping_step control_step
-  ping-in-turn (Written n) e =
-      let eight : length (bytes 8 id) ≡ 8 = length-bytes 8 id in
-      let z : n ≡ 24 =
-      size_is l 0x5730a2df l.awaits (length b) n
-      (ap (λ (i : ℕ). control_answer l 0x5730a2df l.awaits i (length b)) (sym eight) ∙ e) in
-      let got = ping-arrives l k a m id fits b n e in (
-        ap (λ (r : Received). r.answer ∷ []) got ∙ rw (eight, size-24 l, z),
-        alive-at (ap (λ (x : Sent). (step_by l 0x5730a2df id x).link) e) (ap (λ (r : Received). r.link) got) (alive-after-ping l k a m id fits b n e),
-      )
-  ping-in-turn (Refused r) e = (refl, alive-at (ap (λ (x : Sent). (step_by l 0x5730a2df id x).link) e) refl a)
-
-  pong-in-turn : (x : Sent) → pong ≡ x → InTurn false x
-  unfolding heard_by meant_by pong_step control_step
-  pong-in-turn (Written n) e =
-      let eight : length (bytes 8 l.owed) ≡ 8 = length-bytes 8 l.owed in
-      let z : n ≡ 24 =
-      size_is l 0x8430eaa7 (not l.owes) (length b) n
-      (ap (λ (i : ℕ). control_answer l 0x8430eaa7 (not l.owes) i (length b)) (sym eight) ∙ e) in
-      let got = pong-arrives l k a m b n e in (
-        ap (λ (r : Received). r.answer ∷ []) got ∙ rw (eight, size-24 l, z),
-        alive-at (ap (λ (x : Sent). (step_by l 0x8430eaa7 0 x).link) e) (ap (λ (r : Received). r.link) got) (alive-after-pong l k a m b n e),
-      )
-  pong-in-turn (Refused r) e = (refl, alive-at (ap (λ (x : Sent). (step_by l 0x8430eaa7 0 x).link) e) refl a)
-
-  pub call-in-turn : (p : Bool) (x : Sent) → (step_of l (call p)).answer ≡ x → InTurn p x
-  unfolding ping_step pong_step control_step
-  call-in-turn true x e = ping-in-turn x (sym (step-answer l 0x5730a2df id ping) ∙ e)
-  call-in-turn false x e = pong-in-turn x (sym (step-answer l 0x8430eaa7 0 pong) ∙ e)
-
--- ---- all of them
-
-flipped : (l k : Link) → Alive l k → Alive k l
+-- the two, seen from the other side
+pub flipped : (l k : Link) → Alive l k → Alive k l
 flipped l k a =
     record {
       there = a.back;
@@ -206,89 +139,6 @@ flipped l k a =
       owing_k = a.owing_l;
       owing_l = a.owing_k;
     }
-
--- IN TURN: what each link hears is the Ping or Pong that the other sent, for every list of calls
-pub in-turn : (l k : Link) (cs : List Call) → Alive l k → AllFit cs → along heard_by l k cs ≡ along meant_by l k cs
-unfolding along
-in-turn l k [] a ok = refl
-in-turn l k (c ∷ cs) a ok = go c.ours (λ l2 k2 a2. in-turn l2 k2 cs a2 ok.1)
-  where
-    ours : (heard_by l c k (step_of l c).answer ≡ meant_by l c k (step_of l c).answer) × Alive (step_of l c).link (peer_by l c k (step_of l c).answer)
-    ours = call-in-turn l k a c.ours c.id ok.0 c.buffer c.moment c.ping (step_of l c).answer refl
-
-    theirs : (heard_by k c l (step_of k c).answer ≡ meant_by k c l (step_of k c).answer) × Alive (step_of k c).link (peer_by k c l (step_of k c).answer)
-    theirs = call-in-turn k l (flipped l k a) c.ours c.id ok.0 c.buffer c.moment c.ping (step_of k c).answer refl
-
-    go : (b : Bool) → ((l2 k2 : Link) → Alive l2 k2 → along heard_by l2 k2 cs ≡ along meant_by l2 k2 cs)
-        → pick b
-        (heard_by l c k (step_of l c).answer ++ along heard_by (step_of l c).link (peer_by l c k (step_of l c).answer) cs)
-        (heard_by k c l (step_of k c).answer ++ along heard_by (peer_by k c l (step_of k c).answer) (step_of k c).link cs)
-        ≡ pick b
-        (meant_by l c k (step_of l c).answer ++ along meant_by (step_of l c).link (peer_by l c k (step_of l c).answer) cs)
-        (meant_by k c l (step_of k c).answer ++ along meant_by (peer_by k c l (step_of k c).answer) (step_of k c).link cs)
-    go true rest =
-        ap (λ (x : List Arrival). x ++ along heard_by (step_of l c).link (peer_by l c k (step_of l c).answer) cs) ours.0
-        ∙ ap (λ (x : List Arrival). meant_by l c k (step_of l c).answer ++ x) (rest (step_of l c).link (peer_by l c k (step_of l c).answer) ours.1)
-    go false rest =
-        ap (λ (x : List Arrival). x ++ along heard_by (peer_by k c l (step_of k c).answer) (step_of k c).link cs) theirs.0
-        ∙ ap (λ (x : List Arrival). meant_by k c l (step_of k c).answer ++ x)
-        (rest (peer_by k c l (step_of k c).answer) (step_of k c).link (flipped (step_of k c).link (peer_by k c l (step_of k c).answer) theirs.1))
-
--- ---- one Ping and its Pong
-
-module _ (l k : Link) (a : Alive l k) (id : ℕ) (fits : id < 2 ^ 64) (rest : l.awaits ≡ false)
-    (b1 b2 : List ℕ) (room1 : 24 ≤ length b1) (room2 : 24 ≤ length b2) (m1 m2 : Moment) where
-  abbrev l1 : Link
-  l1 = sent_of l 0x5730a2df id 24
-
-  abbrev k1 : Link
-  k1 = after_of k 0x5730a2df (bytes 8 id) m1
-
-  free : k.owes ≡ false
-  free = a.owing_k.turn ∙ rest
-
-  sent1 : ping_step l id (length b1) ≡ record { link = l1; answer = Written 24 }
-  sent1 = ping-written l k a.there a.back a.open_l a.open_k a.number_l a.number_k id fits rest free b1 b2 room1 room2 m1 m2
-
-  sent2 : pong_step k1 (length b2) ≡ record { link = sent_of k1 0x8430eaa7 0 24; answer = Written 24 }
-  sent2 = pong-written l k a.there a.back a.open_l a.open_k a.number_l a.number_k id fits rest free b1 b2 room1 room2 m1 m2
-
-  whole : exchange_of l k id b1 b2 m1 m2
-      ≡ record {
-        pinger = after_of l1 0x8430eaa7 (bytes 8 k1.owed) m2;
-        ponger = sent_of k1 0x8430eaa7 0 24;
-        sent = Written 24 ∷ Written 24 ∷ [];
-        received = Packet 0x5730a2df 24 12 8 ∷ Packet 0x8430eaa7 24 12 8 ∷ [];
-      }
-  unfolding exchange_of
-  whole =
-      rw (
-        sent1,
-        ping-heard l k a.there a.back a.open_l a.open_k a.number_l a.number_k id fits rest free b1 b2 room1 room2 m1 m2,
-        sent2,
-        pong-heard l k a.there a.back a.open_l a.open_k a.number_l a.number_k id fits rest free b1 b2 room1 room2 m1 m2,
-      )
-
-  alive1 : Alive l1 k1
-  unfolding ping_step control_step
-  alive1 = alive-after-ping l k a m1 id fits b1 24 (sym (step-answer l 0x5730a2df id _) ∙ ap (λ (x : Step). x.answer) sent1)
-
-  alive2 : Alive (sent_of k1 0x8430eaa7 0 24) (after_of l1 0x8430eaa7 (bytes 8 k1.owed) m2)
-  unfolding pong_step control_step
-  alive2 = alive-after-pong k1 l1 (flipped l1 k1 alive1) m2 b2 24 (sym (step-answer k1 0x8430eaa7 0 _) ∙ ap (λ (x : Step). x.answer) sent2)
-
-  -- KEPT ALIVE: a Ping of a link that awaits no Pong, and the Pong that answers it
-  pub kept-alive : KeptAlive (exchange_of l k id b1 b2 m1 m2)
-  unfolding after_of awaits_after sent_of owes_sent
-  kept-alive =
-      rw whole
-      (record {
-        written = refl;
-        arrived = refl;
-        answered = refl;
-        settled = refl;
-        alive = flipped (sent_of k1 0x8430eaa7 0 24) (after_of l1 0x8430eaa7 (bytes 8 k1.owed) m2) alive2;
-      })
 
 -- ---- from the opening on
 

@@ -11,4 +11,6 @@ pub mod NoncePasses
 pub mod Opening
 pub mod SetUps
 pub mod InTurn
+pub mod CallsInTurn
+pub mod PingAnswered
 pub mod NonceBack
