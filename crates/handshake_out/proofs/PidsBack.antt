@@ -1,6 +1,6 @@
 -- The NetPIDs of a Handshake that was written read back, whatever stands behind it. Assumes nothing.
-use mathlib.Core.Path.{◌≡◌, refl, sym, ap, ◌∙◌}
-use mathlib.Core.List.{List, [], ◌++◌, append_assoc, append-nil}
+use mathlib.Core.Path.{◌≡◌, refl, ap, ◌∙◌}
+use mathlib.Core.List.{List, ◌++◌, append_assoc}
 use Prim.Native.Nat.{ℕ, ◌+◌, ◌<◌, ◌^◌}
 use lib.ListN.{length, length-append}
 use Rattle.wire.specs.Bytes.{le, part, bytes}
@@ -52,6 +52,3 @@ module _ (flags : ℕ) (sender peer : NetPid) (fs : PidFits sender) (fp : PidFit
       let p : pid_at (F ++ (S ++ (P ++ rest))) 16 ≡ peer =
       simp append_assoc at (pid-back (F ++ S) rest peer 16 (simp (length-append, length-bytes, length-pid)) fp) in
       rw (e, s, p) refl
-
-  pub pids-back : pids_of (handshake_body flags sender peer) ≡ record { sender = sender; peer = peer }
-  pids-back = ap pids_of (sym (append-nil (handshake_body flags sender peer))) ∙ pids-back-rest []

@@ -1,2 +1,3 @@
 -- Laws of crate message_c: the message reader for C.
+pub mod TimeoutTold
 pub mod Timeouts

@@ -1,4 +1,5 @@
 -- Laws of crate message_laws: the theorems on messages.
+pub mod FrontedBack
 pub mod InvokeBack
 pub mod InvokeForms
 pub mod MessageBack

@@ -36,7 +36,8 @@ use Rattle.message.specs.declared.Message.TheVariants as M
 use Rattle.message_laws.specs.Forms.{Front, ReqError, form_bytes, form_mark, front_bytes, fronted_payload}
 use Rattle.message_laws.specs.RoundTrip.{ReadsAs, invoke_with, ActorFits, TimeoutFits, payload_at}
 use Rattle.message_laws.proofs.InvokeBack.{read_back, invoke-part}
-use Rattle.message_laws.proofs.ResultBack.{payload-read, payload-part, fronted-payload-read, fronted-payload-part, form-read}
+use Rattle.message_laws.proofs.FrontedBack.{fronted-payload-read}
+use Rattle.message_laws.proofs.ResultBack.{payload-read, payload-part, fronted-payload-part, form-read}
 
 -- the front of the lent bytes, where the body x was stored
 reads-front : (read : List ℕ → Message) (s x : List ℕ) (m : Message) (p : List ℕ) → s ≡ x → ReadsAs read x m p → ReadsAs read s m p

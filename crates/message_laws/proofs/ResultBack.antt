@@ -39,7 +39,7 @@ use Rattle.message_laws.proofs.TextBack.{text-back}
 use Rattle.message_laws.proofs.Within.{within-is}
 
 -- a query number in front of x
-numbered-back : (n : ℤ) (x : List ℕ) (f : ℤ → ReplyRead) → SFits w64 n → (of_z w64 n ≡ 0 → ⊥) → numbered (bytes 8 (of_z w64 n) ++ x) f ≡ f n
+pub numbered-back : (n : ℤ) (x : List ℕ) (f : ℤ → ReplyRead) → SFits w64 n → (of_z w64 n ≡ 0 → ⊥) → numbered (bytes 8 (of_z w64 n) ++ x) f ≡ f n
 unfolding bytes
 numbered-back n x f fits some =
     let s : List ℕ = bytes 8 (of_z w64 n) ++ x in
@@ -53,7 +53,7 @@ unfolding kind_of answer_kind
 header-kind = refl
 
 -- behind a header of mask 0 the answer begins at byte 16
-header-passed : (n : ℤ) (x : List ℕ)
+pub header-passed : (n : ℤ) (x : List ℕ)
     → after_header (bytes 8 (of_z w64 n) ++ (front_bytes Headed ++ x)) ≡ B.TheVariants.At 16
 unfolding bytes front_bytes after_header after_mask
 header-passed n x =
@@ -94,28 +94,6 @@ module _ (n : ℤ) (p : List ℕ) where
 -- the same behind a front
 abbrev pub fronted_read : Front → ℤ → List ℕ → ReplyRead
 fronted_read h n p = R.Reply (record { number = n; answer = Payload (8 + length (front_bytes h)) (length p) })
-
-headed-by : (n : ℤ) (p : List ℕ) (b : Bool) → ltb (length p) 4 ≡ b
-    → pick b false (is_header (kind_of Client (le (part p 0 4)))) ≡ false
-    → read_answer (bytes 8 (of_z w64 n) ++ (front_bytes Headed ++ p)) n 16 ≡ fronted_read Headed n p
-unfolding bytes front_bytes read_answer payload_from
-headed-by n p true e c =
-    let l : length (bytes 8 (of_z w64 n) ++ (front_bytes Headed ++ p)) - 16 ≡ length p = omega arith in
-    rw (l, e)
-headed-by n p false e c =
-    let l : length (bytes 8 (of_z w64 n) ++ (front_bytes Headed ++ p)) - 16 ≡ length p = omega arith in
-    rw (l, e, other (kind_of Client (le (part p 0 4))) c) (rw l)
-
-pub fronted-payload-read : (h : Front) (n : ℤ) (p : List ℕ) → SFits w64 n → (of_z w64 n ≡ 0 → ⊥)
-    → reads_as_header Client p ≡ false
-    → read_result (fronted_payload h n p) ≡ fronted_read h n p
-unfolding read_result payload_bytes fronted_payload front_bytes reads_as_header
-fronted-payload-read Plain n p fits some c = payload-read n p fits some c
-fronted-payload-read Headed n p fits some c =
-    let s : List ℕ = bytes 8 (of_z w64 n) ++ (front_bytes Headed ++ p) in
-    numbered-back n (front_bytes Headed ++ p) (λ z. answer_from s z (after_header s)) fits some
-    ∙ ap (answer_from s n) (header-passed n p)
-    ∙ headed-by n p (ltb (length p) 4) refl c
 
 pub fronted-payload-part : (h : Front) (n : ℤ) (p : List ℕ)
     → within (fronted_payload h n p) (8 + length (front_bytes h)) (length p) ≡ p

@@ -28,7 +28,7 @@ use Rattle.send_rules.specs.Control.{control_answer, control_step, buffer_by, co
 use Rattle.send_rules.proofs.ControlLaws.{step-answer, fits}
 use Rattle.handshake_out.specs.Handshake.{flags_of, pid_bytes, handshake_body, handshake_step, handshake_buffer}
 use Rattle.handshake_out.proofs.BodyLaws.{length-handshake}
-use Rattle.handshake_out.proofs.PidsBack.{pids-back}
+use Rattle.handshake_out.proofs.PidsAlone.{pids-back}
 use Rattle.pair.specs.Awaits.{Awaits}
 use Rattle.pair.proofs.SumLaws.{small-append, small_bytes}
 use Rattle.pair.proofs.RoundTrip.{reads-body, received}
