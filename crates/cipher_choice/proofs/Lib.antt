@@ -1,5 +1,6 @@
 -- Theorems on ciphered links.
 pub mod Unasked
+pub mod OnlyNonces
 pub mod Unmet
 pub mod SameKeys
 pub mod Opposite

@@ -114,7 +114,7 @@ record Hidden (set : Settings) (l : Link) : Type 0 where
   settings : l.set ≡ set
   hidden : heard_from set.server ≤ l.stage → l.ciphered ≡ true
 
-soon : (v : Bool) → heard_from v ≤ 2
+pub soon : (v : Bool) → heard_from v ≤ 2
 soon true = omega arith
 soon false = omega arith
 
@@ -162,28 +162,24 @@ module _ (set : Settings) (has : set.cipher ≡ true) (alone : set.only ≡ true
       flush-ways (λ (x : Step). Hidden set x.link) l room (λ k. h)
       (λ fits. record { settings = h.settings; hidden = h.hidden })
 
+hidden-calls : (set : Settings) → set.cipher ≡ true → set.only ≡ true → (l : Link) → Hidden set l → (cs : List Call)
+    → Hidden set (after_calls l cs)
+hidden-calls set has alone l h [] = h
+hidden-calls set has alone l h (c ∷ cs) =
+    hidden-calls set has alone (after_call l c) (hidden-call set has alone l h c) cs
+
+hidden-fresh : (set : Settings) (keyid : ℕ) → Hidden set (fresh_of set keyid)
+unfolding fresh_of
+hidden-fresh set keyid = record { settings = refl; hidden = λ w. absurd (none set.server w) }
+  where
+    none : (v : Bool) → heard_from v ≤ 0 → ⊥
+    none true w = omega arith
+    none false w = omega arith
+
 module _ (set : Settings) (has : set.cipher ≡ true) (alone : set.only ≡ true) where
-  hidden-calls : (l : Link) → Hidden set l → (cs : List Call) → Hidden set (after_calls l cs)
-  hidden-calls l h [] = h
-  hidden-calls l h (c ∷ cs) = hidden-calls (after_call l c) (hidden-call set has alone l h c) cs
-
-  hidden-fresh : (keyid : ℕ) → Hidden set (fresh_of set keyid)
-  unfolding fresh_of
-  hidden-fresh keyid = record { settings = refl; hidden = λ w. absurd (none set.server w) }
-    where
-      none : (v : Bool) → heard_from v ≤ 0 → ⊥
-      none true w = omega arith
-      none false w = omega arith
-
   -- NEVER CLEAR: a link that was set up cipher only is ciphered as soon as it has the other side's Nonce, after any
-  -- calls on any bytes; so it never opens clear, and nothing but Nonces goes over it clear
+  -- calls on any bytes; so it never opens clear; that nothing but Nonces goes over it clear is in proofs/OnlyNonces.antt
   pub never-clear : (key : Option (List ℕ)) (l : Link) → set_up_of set key ≡ Ready l → (cs : List Call)
       → heard_from set.server ≤ (after_calls l cs).stage → (after_calls l cs).ciphered ≡ true
   never-clear key l e cs =
-      (hidden-calls l (rw (set-up-took set key l e).0 (hidden-fresh (key_id_of key))) cs).hidden
-
-  -- and what is no Nonce is allowed only then
-  pub only-nonces-before : (key : Option (List ℕ)) (l : Link) → set_up_of set key ≡ Ready l → (cs : List Call) (kind : ℕ)
-      → allowed_of (after_calls l cs) kind ≡ true → eqb kind 0x7acb87aa ≡ false → (after_calls l cs).ciphered ≡ true
-  only-nonces-before key l e cs kind may other =
-      never-clear key l e cs (omega (arith, past-nonces (after_calls l cs) kind may other, soon set.server))
+      (hidden-calls set has alone l (rw (set-up-took set key l e).0 (hidden-fresh set (key_id_of key))) cs).hidden

@@ -10,4 +10,7 @@ pub mod Turns
 pub mod Greets
 pub mod Exchange
 pub mod WholeBlocks
+pub mod Alike
 pub mod Derived
+pub mod NotRefused
+pub mod DerivedExchange
