@@ -1,5 +1,5 @@
 -- Facts that are tests, computed: for a pair, for every byte, for two lists. Assumes nothing.
-use mathlib.Core.Path.{◌≡◌, refl, sym, ap, ap₂, ◌∙◌, subst}
+use mathlib.Core.Path.{◌≡◌, refl, sym, ap₂, ◌∙◌, subst}
 use mathlib.Core.Bool.{Bool, true, false, ◌&&◌}
 use mathlib.Core.List.{List, [], ◌∷◌}
 use Prim.Native.Nat.{ℕ, zero, suc, ◌+◌, ◌<◌}
@@ -15,7 +15,7 @@ and_right true b t = t
 and_right false b t = absurd t
 
 -- ---- a test of every number from i on, n of them
-abbrev all : (ℕ → Bool) → ℕ → ℕ → Bool
+abbrev pub all : (ℕ → Bool) → ℕ → ℕ → Bool
 all f i zero = true
 all f i (suc n) = f i && all f (suc i) n
 
@@ -27,10 +27,11 @@ all-at f (suc n) i t (suc k) h =
     (all-at f n (suc i) (and_right (f i) (all f (suc i) n) t) k (le_of_suc-le-suc h))
 
 -- a test at each byte
+pub each-byte : (p : ℕ → Bool) → T (all p 0 256) → (b : ℕ) → b < 256 → T (p b)
+each-byte p t b h = subst (λ (n : ℕ). T (p n)) (zero-add b) (all-at p 256 0 t b h)
+
 pub byte-test : (f g : ℕ → ℕ) → T (all (λ b. eqb (f b) (g b)) 0 256) → (b : ℕ) → b < 256 → f b ≡ g b
-byte-test f g t b h =
-    ap f (sym (zero-add b)) ∙ eqb→eq (f (0 + b)) (g (0 + b)) (all-at (λ b. eqb (f b) (g b)) 256 0 t b h)
-    ∙ ap g (zero-add b)
+byte-test f g t b h = eqb→eq (f b) (g b) (each-byte (λ b. eqb (f b) (g b)) t b h)
 
 -- ---- two lists, number by number: where they differ that is seen at once, and not by what they are computed from
 abbrev pub alike : List ℕ → List ℕ → Bool

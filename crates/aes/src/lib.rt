@@ -6,21 +6,8 @@
 // `aes_bytes` and `cipher_laws`.
 #![tactic(auto)]
 
-// Whether a call was done, or a refusal's number: then buffer and vector stay.
-#[derive(Clone, Copy)]
-pub enum Answer {
-    Done,
-    Refused(u8),
-}
-
-// A call's answer, and the vector for the next one.
-#[derive(Clone, Copy)]
-pub struct Chained {
-    pub answer: Answer,
-    pub vector: [u8; 16],
-}
-
 // A block of sixteen bytes as four words, the first byte lowest.
+// Kept: an array of four would be no plainer, since each step moves the words by name and none goes over them.
 #[derive(Clone, Copy)]
 pub struct Quad {
     pub a: u32,

@@ -4,6 +4,8 @@
 // The word is in its number twice, so that a caller has it turned by any number of bytes with one shift. It is a
 // `match`, of which the compiler makes a table that no call copies; that needs that it is called at one place only.
 // The definitions are `unproducts` and `unsbox` of crate aes.
+// Kept: with a `static` array in place of the arms here and in aes_unsub deciphering takes 8.6 ns a byte in place of 4.5
+// (see aes_sub).
 #![tactic(auto)]
 
 ghost use Rattle.aes.specs.Field.{unsbox};

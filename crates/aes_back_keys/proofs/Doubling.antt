@@ -52,8 +52,12 @@ by-11 a b c d e f g =
     ap (bit_xor a) (ap₂ bit_xor e (q ∙ sym (xor_zero_r (xtime (xtime (xtime a))))
     ∙ sym (xor_zero_l (bit_xor (xtime (xtime (xtime a))) 0))))
 
+-- a sum of bytes is a byte
+pub xor_byte : (a b : ℕ) → a < 256 → b < 256 → bit_xor a b < 256
+xor_byte a b ha hb = xor_lt 8 a b ha hb
+
 -- the four sums are bytes
-pub few : (a b c d : ℕ) → a < 256 → b < 256 → c < 256 → d < 256
+few : (a b c d : ℕ) → a < 256 → b < 256 → c < 256 → d < 256
     → (bit_xor b (bit_xor c d) < 256)
     × ((bit_xor a d < 256) × ((bit_xor a (bit_xor c d) < 256) × (bit_xor a (bit_xor b d) < 256)))
 few a b c d ha hb hc hd =

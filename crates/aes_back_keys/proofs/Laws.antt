@@ -10,7 +10,7 @@ use lib.Bits.{bit_xor}
 use Rattle.aes.specs.Aes.{add, columns, cell, unmix_columns, round_key}
 use Rattle.aes.specs.Back.{back_to, back_keys}
 use Rattle.aes.specs.Words.{bytes4, unproducts}
-use Rattle.aes.proofs.Words.{bytes4-xor, turn_list, quarters}
+use Rattle.aes.proofs.Words.{bytes4-xor, turn_list}
 use Rattle.aes.proofs.Quads.{join4}
 
 pub column0 : (x y z w p q r s : ℕ) → bytes4 p ≡ unproducts x → bytes4 q ≡ turn_list (unproducts y) → bytes4 r
@@ -31,11 +31,6 @@ pub unmix-law : (a b c d : ℕ) {p q r s : List ℕ} → p ≡ unmix_columns (by
     ≡ unmix_columns (bytes4 c) → s ≡ unmix_columns (bytes4 d)
     → p ++ (q ++ (r ++ s)) ≡ unmix_columns (bytes4 a ++ (bytes4 b ++ (bytes4 c ++ bytes4 d)))
 unmix-law a b c d ep eq er es = join4 ep eq er es ∙ whole a b c d
-
-pub load-law : (l : List ℕ) (at k0 k1 k2 k3 : ℕ) → bytes4 k0 ≡ take 4 (drop at l) → bytes4 k1
-    ≡ take 4 (drop (at + 4) l) → bytes4 k2 ≡ take 4 (drop (at + 8) l) → bytes4 k3 ≡ take 4 (drop (at + 12) l)
-    → bytes4 k0 ++ (bytes4 k1 ++ (bytes4 k2 ++ bytes4 k3)) ≡ take 16 (drop at l)
-load-law l at k0 k1 k2 k3 e0 e1 e2 e3 = join4 e0 e1 e2 e3 ∙ sym (quarters l at)
 
 -- ---- rounds: the first n + 1 are done, and the rest of d is that of w
 module _ (w : List ℕ) (n : ℕ) (d : List ℕ) (long : length (back_to n w) ≡ n * 16 + 16)

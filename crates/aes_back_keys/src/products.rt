@@ -15,6 +15,7 @@ fn double(a: u32) -> u32
 }
 
 // 14, 9, 13 and 11 times a, the first lowest.
+#[tactic(auto, using(crate::proofs::Doubling::xor_byte))]
 pub(crate) fn look(a: u32) -> u32
     requires { a < 256 }
     ensures { bytes4 result ≡ unproducts a }

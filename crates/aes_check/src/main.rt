@@ -7,10 +7,11 @@
 mod calls;
 mod print;
 
+use check_records::each_record;
 use std::io;
 
 fn main(rt: HostRuntime) -> io::Result<()> {
     let mut space = [0u8; 65536];
     let mut input = rt.reader();
-    calls::records(&mut input, &rt, &mut space)
+    each_record(|| calls::record(&mut input, &rt, &mut space))
 }

@@ -3,6 +3,8 @@
 // The word is in its number twice, so that a caller has it turned by any number of bytes with one shift. It is a
 // `match`, of which the compiler makes a table that no call copies; that needs that `column_of` is called at one
 // place only. The definition is `products` of crate aes.
+// Kept: with a `static` array in place of the arms here and in aes_sub enciphering takes 8.3 ns a byte in place of 4.7
+// (see aes_sub).
 #![tactic(auto)]
 
 ghost use Rattle.aes.specs.Words.{products};

@@ -2,22 +2,14 @@
 ghost use Rattle.std.specs.Prelude.{◌≡◌, [], ◌∷◌, ◌+◌, ◌≤◌, ◌<◌, length, take, drop};
 ghost use Rattle.aes.specs.Aes.{rcon, temp, keys};
 ghost use Rattle.aes.specs.Words.{bytes4};
-ghost use Rattle.aes_loops.proofs.Turns.{turns};
 
 use super::substitution::sub_word;
+use aes_loops::{rotated, word_at};
 use store::put_u32;
 use store_bytes::copy;
-use wire::u32_at;
-
-// The word at an offset.
-fn key4(k: &[u8], at: usize) -> u32
-    requires { at + 4 ≤ length k.now }
-    ensures { bytes4 result ≡ take 4 (drop at k.now) }
-{
-    u32_at(k, at)
-}
 
 // The round constants.
+#[tactic(auto, unfolding(aes::specs::Words::bytes4, aes::specs::Aes::rcon, aes::specs::Field::xtime))]
 fn rc(j: usize) -> u32
     requires { (0 < j) × (j < 8) }
     ensures { bytes4 result ≡ rcon j ∷ 0 ∷ 0 ∷ 0 ∷ [] }
@@ -33,13 +25,6 @@ fn rc(j: usize) -> u32
     }
 }
 
-// Turned by a byte: the second byte comes first.
-fn rotated(x: u32) -> u32
-    ensures { bytes4 result ≡ turns 3 (bytes4 x) }
-{
-    x % 256 * 16777216 + x / 256
-}
-
 // What is added to the word eight words back, from the word before.
 fn temp(i: usize, p: u32) -> u32
     requires { (7 < i) × (i < 60) }
@@ -47,7 +32,7 @@ fn temp(i: usize, p: u32) -> u32
 {
     let m = i % 8;
     if m == 0 {
-        sub_word(rotated(p), rc(i / 8))
+        sub_word(rotated(p, 3), rc(i / 8))
     } else if m == 4 {
         sub_word(p, 0)
     } else {
@@ -60,13 +45,11 @@ fn expand(w: &mut [u8])
     requires { length w.old ≡ 240 }
     ensures { w.new ≡ keys (take 32 w.old) }
 {
-    let mut i: usize = 8;
-    while i < 60 {
-        let p = key4(w, i * 4 - 4);
+    for i in 8..60 {
+        let p = word_at(w, i * 4 - 4);
         let x = temp(i, p);
-        let y = key4(w, i * 4 - 32);
+        let y = word_at(w, i * 4 - 32);
         put_u32(w, i * 4, y ^ x);
-        i += 1;
     }
 }
 

@@ -1,23 +1,25 @@
 // The substitutes of a word's bytes.
-ghost use Rattle.std.specs.Prelude.{◌≡◌, [], ◌∷◌, ◌<◌};
+ghost use Rattle.std.specs.Prelude.{◌≡◌, [], ◌∷◌};
+ghost use Rattle.aes.specs.Field.{sbox};
 ghost use Rattle.aes.specs.Aes.{add, sub_bytes};
 ghost use Rattle.aes.specs.Words.{bytes4};
-ghost use Rattle.aes_loops.proofs.Turns.{turns};
+ghost use Rattle.aes_loops.proofs.Turns.{unmixed-sums};
 
 use aes::Quad;
 use aes_key_sub::key_sub;
+use aes_loops::{Look, gathered, placed};
 
-// A byte at place r of a word.
-fn placed(b: u8, r: u32) -> u32
-    requires { r < 4 }
-    ensures { bytes4 result ≡ turns r (b ∷ 0 ∷ 0 ∷ 0 ∷ []) }
-{
-    let x = b as u32;
-    match r {
-        0 => x,
-        1 => x * 256,
-        2 => x * 65536,
-        _ => x * 16777216,
+struct Substitute;
+
+impl Look for Substitute {
+    ghost adds = { λ x. sbox x ∷ 0 ∷ 0 ∷ 0 ∷ [] };
+
+    ghost makes = { sub_bytes };
+
+    ghost sum = { unmixed-sums };
+
+    fn look(x: u8, r: u32) -> u32 {
+        placed(key_sub(x), r)
     }
 }
 
@@ -25,25 +27,11 @@ fn placed(b: u8, r: u32) -> u32
 pub(crate) fn sub_word(p: u32, k: u32) -> u32
     ensures { bytes4 result ≡ add (sub_bytes (bytes4 p)) (bytes4 k) }
 {
-    let mut q = Quad {
+    let q = Quad {
         a: p,
         b: p,
         c: p,
         d: p,
     };
-    let mut x = k;
-    let mut r: u32 = 0;
-    while r < 4 {
-        let b = key_sub((q.a % 256) as u8);
-        let y = placed(b, r);
-        x = x ^ y;
-        q = Quad {
-            a: q.b / 256,
-            b: q.c / 256,
-            c: q.d / 256,
-            d: 0,
-        };
-        r += 1;
-    }
-    x
+    gathered::<Substitute>(q, k)
 }

@@ -1,25 +1,17 @@
 -- Words and blocks, read and stored byte by byte. Assumes nothing.
 use mathlib.Core.Path.{◌≡◌, refl, sym, ap, ◌∙◌}
 use mathlib.Core.List.{List, [], ◌∷◌, ◌++◌}
-use Prim.Native.Nat.{ℕ, suc, ◌+◌, ◌*◌, ◌≤◌, ◌<◌}
+use Prim.Native.Nat.{ℕ, suc, ◌+◌, ◌≤◌, ◌<◌}
 use native.Mathlib.Omega.{arith}
 use lib.Bits.{bit_xor}
-use lib.ListN.{length, get_or, set, take, drop, length-set}
+use lib.ListN.{length, set, take, drop, length-set}
 use lib.Seq.{sets}
 use Rattle.wire.proofs.StoreLaws.{runs-4}
 use Rattle.aes.specs.declared.Quad.{Quad}
 use Rattle.aes.specs.Aes.{add}
 use Rattle.aes.specs.Words.{bytes4, bytes_of}
-use Rattle.aes.proofs.Words.{list4, packed, ahead, quarters, bytes4-xor}
+use Rattle.aes.proofs.Words.{quarters, bytes4-xor}
 use Rattle.aes.proofs.Quads.{join4}
-
--- a word, read
-pub word_read : {a b c d : ℕ} (l : List ℕ) (at : ℕ) → at + 4 ≤ length l → (a ≡ get_or l at 0) × (a < 256)
-    → (b ≡ get_or l (at + 1) 0) × (b < 256)
-    → (c ≡ get_or l (at + 2) 0) × (c < 256) → (d ≡ get_or l (at + 3) 0) × (d < 256)
-    → bytes4 (a + b * 256 + c * 65536 + d * 16777216) ≡ take 4 (drop at l)
-word_read l at h a b c d = packed a.1 b.1 c.1 d.1 ∙ list4 a.0 b.0 c.0 d.0 ∙ sym
-    (ahead l at 3 h)
 
 -- the places of a word stay in a list that is written to
 module _ (b : List ℕ) (at : ℕ) where

@@ -14,13 +14,10 @@ use Rattle.aes.specs.Field.{mul, sbox, unsbox}
 use Rattle.aes.specs.Aes.{add, sub_bytes, unsub_bytes, cell, columns, mix_columns, unmix_columns}
 use Rattle.aes.specs.Words.{bytes4, products, unproducts}
 use Rattle.aes.proofs.Xor.{xor_assoc}
-use Rattle.aes.proofs.Words.{list4, turn_list, turned8, turned16, turned24, quarters}
+use Rattle.aes_loops.specs.Rows.{turns, sums}
+use Rattle.aes_loops.specs.Rounds.{Done}
+use Rattle.aes.proofs.Words.{list4, turned8, turned16, turned24, quarters}
 use Rattle.aes.proofs.Quads.{slant}
-
--- turned by n bytes
-abbrev pub turns : ℕ → List ℕ → List ℕ
-turns zero l = l
-turns (suc n) l = turn_list (turns n l)
 
 -- ---- a word that is in w twice, turned
 top-1 : (w x q : ℕ) → q < 16777216 → w ≡ x * 16777216 + q → w / 16777216 ≡ x
@@ -104,12 +101,7 @@ pub placed-3 : {b : ℕ} → b < 256 → bytes4 (b * 16777216) ≡ turns 3 (b �
 unfolding bytes4
 placed-3 h = list4 (omega arith) (omega arith) (omega arith) (omega arith)
 
--- ---- rows: k and what f makes of the first r bytes of a row, each turned by its place
-abbrev pub sums : (ℕ → List ℕ) → List ℕ → List ℕ → ℕ → List ℕ
-sums f row k zero = k
-sums f row k (suc r) = add (sums f row k r) (turns r (f (get_or row r 0)))
-
--- the words of q have the row's bytes from place r on
+-- ---- rows: the words of q have the row's bytes from place r on
 abbrev pub Ahead : List ℕ → ℕ → Quad → Type 0
 Ahead row r q =
     (q.a % 256 ≡ get_or row r 0) × ((q.b / 256 % 256 ≡ get_or row (r + 1) 0) × ((q.c / 65536 % 256 ≡ get_or row (r + 2) 0)
@@ -188,15 +180,7 @@ module _ (x y z w k : ℕ) where
       list4 (alone-0 (k % 256) (unsbox x)) (alone-1 (k / 256 % 256) (unsbox y)) (alone-2 (k / 65536 % 256) (unsbox z))
       (alone-3 (k / 16777216 % 256) (unsbox w))
 
--- ---- columns: the last j words of o are the first j columns
-abbrev pub Done : (ℕ → List ℕ) → ℕ → Quad → Type 0
-Done f zero o = Unit
-Done f (suc zero) o = bytes4 o.d ≡ f 0
-Done f (suc (suc zero)) o = (bytes4 o.c ≡ f 0) × (bytes4 o.d ≡ f 1)
-Done f (suc (suc (suc zero))) o = (bytes4 o.b ≡ f 0) × ((bytes4 o.c ≡ f 1) × (bytes4 o.d ≡ f 2))
-Done f (suc (suc (suc (suc j)))) o = (bytes4 o.a ≡ f 0)
-    × ((bytes4 o.b ≡ f 1) × ((bytes4 o.c ≡ f 2) × (bytes4 o.d ≡ f 3)))
-
+-- ---- columns
 done-suc : (f : ℕ → List ℕ) (j : ℕ) (o : Quad) (x : ℕ) → j < 4 → Done f j o → bytes4 x ≡ f j
     → Done f (suc j) (record { a = o.b; b = o.c; c = o.d; d = x })
 done-suc f zero o x h d e = e
@@ -208,22 +192,6 @@ done-suc f (suc (suc (suc (suc j)))) o x h d e = absurd (omega arith)
 pub done_next : (f : ℕ → List ℕ) (j : ℕ) (o : Quad) (x : ℕ) → j < 4 → Done f j o → bytes4 x ≡ f j
     → Done f (j + 1) (record { a = o.b; b = o.c; c = o.d; d = x })
 done_next f j o x h d e = rw (add-one j) (done-suc f j o x h d e)
-
--- the words of the next column's rows, forth and back
-abbrev pub onward : Quad → Quad
-onward q = record { a = q.b; b = q.c; c = q.d; d = q.a }
-
-abbrev pub backward : Quad → Quad
-backward q = record { a = q.d; b = q.a; c = q.b; d = q.c }
-
--- back, rows come from the columns before
-abbrev pub facing : Quad → Quad
-facing q = record { a = q.a; b = q.d; c = q.c; d = q.b }
-
--- turned j times by g
-abbrev pub spun : (Quad → Quad) → ℕ → Quad → Quad
-spun g zero q = q
-spun g (suc j) q = g (spun g j q)
 
 add-append : (p q s t : List ℕ) → length p ≡ length q → add (p ++ s) (q ++ t) ≡ add p q ++ add s t
 unfolding add

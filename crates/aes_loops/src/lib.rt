@@ -1,6 +1,18 @@
-// What the cipher's loops owe (proofs/Turns): a column is gathered row by row, and a block column by column.
+// The cipher's loops (FIPS 197): a block through its rounds, and the blocks of a buffer, forth and back.
 //
-// No function is here. Enciphering and deciphering share these laws: `sums` for the rows, `Done` and `spun` for the
-// columns. The look-ups stand once in the code, in loops of four, so that the compiler can make tables of constants
-// of them. The definitions are those of crate aes.
+// Enciphering and deciphering are one code over a `Direction`: the crates aes_encipher and aes_decipher have one each.
+// A round is sixteen look-ups, of which each kind is a `Look`. A look-up stands once in the code, in loops of four, so
+// that the compiler can make a table of constants of it and unroll the loops. Laws of the loops are in proofs/: `sums`
+// for the rows, `Done` and `spun` for the columns. The definitions are those of crate aes.
 #![tactic(auto)]
+
+mod block;
+mod chain;
+mod column;
+mod direction;
+mod words;
+
+pub use chain::chained;
+pub use column::{Look, gathered, placed, turned};
+pub use direction::Direction;
+pub use words::{both, load, rotated, store, word_at};

@@ -3,6 +3,7 @@
 // It is a `match`, of which the compiler makes a table that no call copies; that needs that `unsub` is called at one
 // place only: in the last round of deciphering, which has no matrix step.
 // The definition is `unsbox` of crate aes.
+// Kept: with a `static` array in place of the arms deciphering takes 9.7 ns a byte in place of 4.5 (see aes_sub).
 #![tactic(auto)]
 
 ghost use Rattle.std.specs.Prelude.{◌≡◌};

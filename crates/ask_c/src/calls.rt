@@ -1,31 +1,31 @@
 // A fresh table, and ask.
 ghost use Rattle.std.specs.Prelude.{◌≡◌};
-ghost use Rattle.inflight.specs.Tables.{table_of, fresh_answer, fresh_masks, fresh_numbers, fresh_times, ask_of};
+ghost use Rattle.inflight.specs.Tables.{fresh_of, ask_of};
 ghost use Rattle.ask_c.specs.AskFields.{started_refusal, ask_fields};
 
 use crate::RelayAsked;
-use inflight::{AskAnswer, FreshAnswer, FrontNumber, PublisherNumber};
+use inflight::{FrontNumber, PublisherNumber, Table};
+use refusal::Refusal;
 
 // The answers as numbers.
-fn started_refusal(a: FreshAnswer) -> u8
+// Kept: 0 for none, since the C interface answers a number.
+fn started_refusal(a: Result<(), Refusal>) -> u8
     ensures { result ≡ started_refusal a }
 {
     match a {
-        FreshAnswer::Ready => 0,
-        FreshAnswer::Refused(k) => k,
+        Ok(()) => 0,
+        Err(refusal) => u8::from(refusal),
     }
 }
 
-fn ask_fields(a: AskAnswer) -> RelayAsked
+#[tactic(auto, unfolding(crate::specs::AskFields::ask_fields))]
+fn ask_fields(a: Result<PublisherNumber, Refusal>) -> RelayAsked
     ensures { result ≡ ask_fields a }
 {
     match a {
-        AskAnswer::Accepted(n) => RelayAsked {
-            refusal: 0,
-            number: n,
-        },
-        AskAnswer::Refused(k) => RelayAsked {
-            refusal: k,
+        Ok(number) => RelayAsked { refusal: 0, number },
+        Err(refusal) => RelayAsked {
+            refusal: u8::from(refusal),
             number: PublisherNumber(0),
         },
     }
@@ -34,18 +34,11 @@ fn ask_fields(a: AskAnswer) -> RelayAsked
 // A table starts at a first publisher number: a refusal's number, or 0. `places`, `order` and the
 // deadlines of slots stay in any case.
 #[unsafe(no_mangle)]
-pub extern "C" fn relay_fresh_lent(
-    masks: &mut [u64; 9],
-    numbers: &mut [i64; 136],
-    times: &mut [u64; 65],
-    first: PublisherNumber,
-) -> u8
-    ensures { (result ≡ started_refusal (fresh_answer first))
-        × (masks.new ≡ fresh_masks first masks.old)
-        × (numbers.new ≡ fresh_numbers first numbers.old)
-        × (times.new ≡ fresh_times first times.old) }
+pub extern "C" fn relay_fresh_lent(table: &mut Table, first: PublisherNumber) -> u8
+    ensures { (result ≡ started_refusal (fresh_of table.old first).answer)
+        × (table.new ≡ (fresh_of table.old first).table) }
 {
-    let a = inflight::fresh(masks, numbers, times, first);
+    let a = inflight::fresh(table, first);
     started_refusal(a)
 }
 
@@ -53,27 +46,16 @@ pub extern "C" fn relay_fresh_lent(
 // publisher number, or refused.
 #[unsafe(no_mangle)]
 pub extern "C" fn relay_ask_lent(
-    masks: &mut [u64; 9],
-    numbers: &mut [i64; 136],
-    places: &mut [u8; 128],
-    order: &mut [u8; 64],
-    times: &mut [u64; 65],
+    table: &mut Table,
     link: u8,
     number: FrontNumber,
     publisher: u8,
     time: u64,
     timeout: u32,
 ) -> RelayAsked
-    ensures { (result ≡ ask_fields (ask_of
-        (table_of masks.old numbers.old places.old
-        order.old times.old) link number publisher time timeout).answer)
-        × (table_of masks.new numbers.new places.new order.new
-        times.new ≡ (ask_of
-        (table_of masks.old numbers.old places.old
-        order.old times.old) link number publisher time timeout).table) }
+    ensures { (result ≡ ask_fields (ask_of table.old link number publisher time timeout).answer)
+        × (table.new ≡ (ask_of table.old link number publisher time timeout).table) }
 {
-    let a = inflight_ask::ask(
-        masks, numbers, places, order, times, link, number, publisher, time, timeout,
-    );
+    let a = inflight_ask::ask(table, link, number, publisher, time, timeout);
     ask_fields(a)
 }

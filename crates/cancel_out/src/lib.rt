@@ -8,26 +8,23 @@ ghost use Rattle.std.specs.Prelude.{◌≡◌, length};
 ghost use Rattle.body.specs.Written.{bytes_after};
 ghost use Rattle.cancel_out.specs.WriteShort.{cancel_bytes, cancel_answer, fin_bytes, fin_answer};
 
-use body::{Written, size_or_refusal};
+use body::size_or_refusal;
+use refusal::Refusal;
 use store_signed::put_i64;
 
 // Writes the body at the front of d, or refuses it and leaves d as it is.
-pub fn write_cancel(d: &mut [u8], number: i64) -> Written
+pub fn write_cancel(d: &mut [u8], number: i64) -> Result<usize, Refusal>
     ensures { (result ≡ cancel_answer number (length d.old))
         × (d.new ≡ bytes_after result d.old (cancel_bytes number)) }
 {
-    match size_or_refusal(number, false, 8, d.len()) {
-        Written::Refused(n) => Written::Refused(n),
-        Written::Size(k) => {
-            put_i64(d, 0, number);
-            Written::Size(k)
-        }
-    }
+    let size = size_or_refusal(number, false, 8, d.len())?;
+    put_i64(d, 0, number);
+    Ok(size)
 }
 
 // A fin of either side has an empty body: nothing is stored.
-pub fn write_fin(d: &mut [u8]) -> Written
+pub fn write_fin(d: &mut [u8]) -> Result<usize, Refusal>
     ensures { (result ≡ fin_answer) × (d.new ≡ bytes_after result d.old fin_bytes) }
 {
-    Written::Size(0)
+    Ok(0)
 }

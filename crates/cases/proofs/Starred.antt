@@ -23,33 +23,32 @@ use Rattle.link_state.specs.SetUp as SetUp
 use Rattle.link_state.specs.Turn.{may_send, stage_after}
 use Rattle.packet.specs.Sum.{castagnoli_of, sum_of}
 use Rattle.packet.specs.Allowed.{allowed_of}
-use Rattle.packet_head.specs.Head.{length_refusal, head_refusal}
+use Rattle.packet_head.specs.Head.{check_length, check_head}
 use Rattle.packet_padding.specs.Padding.{padded_of, pads_of, tail_of, words_allowed, phase_after}
 use Rattle.packet_head.specs.Words.{word_at, words_of}
 use Rattle.packet_in.specs.Frame.{whole_of, rows_of, frame_of}
 use Rattle.opening.specs.Clock.{clock_of, nonce_clock, near_of}
 use Rattle.link_cipher.specs.Chosen.{server_refuses, encryption_refused, chosen_of, cipher_refused}
-use Rattle.opening.specs.Nonce.{least_of, beyond_of, nonce_refusal}
-use Rattle.link.specs.Look.{turn_refusal, look_of}
+use Rattle.opening.specs.Nonce.{least_of, beyond_of, check_nonce}
+use Rattle.link.specs.Look.{check_turn, look_of}
 use Rattle.link_next.specs.KeepAlive.{awaits_after, owes_after, owed_after}
 use Rattle.link_next.specs.Next.{closed_of, closes_of, refused_of, agreed_after, version_after, after_of}
-use Rattle.link.specs.Receive.{body_refusal, receive_of}
+use Rattle.link.specs.Receive.{check_body, receive_of}
 use Rattle.link.specs.declared.Received.{Received}
 use Rattle.packet_out.specs.Size.{size_of, fits_of}
 use Rattle.packet_out.specs.Packet.{head_of, front_of, packet_of}
 use Rattle.send_rules.specs.Sent.{sent_of}
-use Rattle.send_rules.specs.Control.{send_refusal, control_answer, control_step}
+use Rattle.send_rules.specs.Control.{check_send, control_answer, control_step}
 use Rattle.nonce_out.specs.Nonce.{nonce_head, nonce_body}
 use Rattle.keep_alive_out.specs.KeepAlive.{ping_step}
 use Rattle.inflight.specs.Numbers.{same, after}
 use Rattle.inflight.specs.Matching.{matches, matching, without, load, sum_below, next_free}
-use Rattle.inflight.specs.Model.{Model, empty, ask_refusal, accept, ask_answer, take_refusal, taken}
+use Rattle.inflight.specs.Model.{Model, empty, check_ask, accept, ask_answer, check_take, taken}
 use Rattle.inflight.specs.Model as M
-use Rattle.inflight.specs.Tables.{Table, Sized, load_of, fresh_of}
+use Rattle.inflight.specs.declared.Table.{Table}
+use Rattle.inflight.specs.Tables.{Sized, load_of, fresh_of}
 use Rattle.inflight.specs.Calls.{Call, Heard, table_at, model_at}
 use Rattle.inflight.specs.Calls as H
-use Rattle.inflight.specs.declared.AskAnswer.{AskAnswer}
-use Rattle.inflight.specs.declared.AskAnswer.TheVariants as A
 use Rattle.inflight_model.proofs.Invariant.{Ranged}
 use Rattle.inflight_tied.proofs.Tied.{model_of}
 use Rattle.inflight_tied.proofs.Loads.{load-ones}
@@ -62,15 +61,20 @@ use Rattle.cases.specs.Outcome.{Outcome, refused, packet, loads, accepted, of_ar
 use Rattle.cases.specs.Cases.{side, our, in_opening, nonce, timed, zeros, asked, loads_of, asks, filling}
 use Rattle.cases.specs.Cases.{filled, fuller}
 use Rattle.cases.specs.Cases.{length16, length15, length1023, length1024, number_sent, number_received, clock30_behind, clock30_ahead, clock31_ahead, text_example, actor_once, actor_twice, actor_again, loads_filled, third_refused, fourth_accepted, load16, loads_fuller, fifth_refused, fifth_accepted, marker_ends, starred_cases, other_cases}
+use Rattle.std.specs.Prelude.{Err, Ok, Result}
+use Rattle.refusal.specs.declared.Refusal.TheVariants.{Clocks, NoSuchRequest}
+use Rattle.refusal.specs.declared.Refusal.{Refusal}
+use Rattle.refusal.specs.Numbers.{number}
+use Rattle.inflight.specs.declared.PublisherNumber.{PublisherNumber}
 
 -- ---- a Nonce, in the first packet
 
 -- the server waits for the client's first packet
 awaits : Awaits (SetUp.fresh_of (side true) 0) (SetUp.fresh_of (side false) 0)
-unfolding SetUp.fresh_of castagnoli_of pads_of turn_refusal may_send
+unfolding SetUp.fresh_of castagnoli_of pads_of check_turn may_send
 awaits = record { number = refl; checksum = refl; stage = refl; profile = refl; turn = refl }
 
-module _ (body : List ℕ) (n : ℕ) (is : length body ≡ n) (len : length_refusal (SetUp.fresh_of (side true) 0) (n + 16) ≡ 0) (short : n + 16 < 2 ^ 32) (g : Small body) where
+module _ (body : List ℕ) (n : ℕ) (is : length body ≡ n) (len : check_length (SetUp.fresh_of (side true) 0) (n + 16) ≡ Ok tt) (short : n + 16 < 2 ^ 32) (g : Small body) where
   abbrev server : Link
   server = SetUp.fresh_of (side true) 0
 
@@ -84,18 +88,18 @@ module _ (body : List ℕ) (n : ℕ) (is : length body ≡ n) (len : length_refu
   unfolding SetUp.fresh_of size_of tail_of pads_of
   size_is = add-zero (n + 16)
 
-  passes : nonce_refusal (SetUp.fresh_of (side true) 0) body our ≡ 0 → in_opening (nonce body) ≡ packet 0x7acb87aa (n + 16) 12 n
-  unfolding SetUp.fresh_of allowed_of body_refusal
+  passes : check_nonce (SetUp.fresh_of (side true) 0) body our ≡ Ok tt → in_opening (nonce body) ≡ packet 0x7acb87aa (n + 16) 12 n
+  unfolding SetUp.fresh_of allowed_of check_body
   passes ok =
       ap (λ (s : List ℕ). in_opening s) whole
-      ∙ (ap (λ (r : Received). of_arrival r.answer) (received client 0x7acb87aa body [] server awaits (ap (λ (x : ℕ). length_refusal server (x + 16)) is ∙ len) refl (lit< tt) (rw is short) (lit< tt) g our ok)
+      ∙ (ap (λ (r : Received). of_arrival r.answer) (received client 0x7acb87aa body [] server awaits (ap (λ (x : ℕ). check_length server (x + 16)) is ∙ len) refl (lit< tt) (rw is short) (lit< tt) g our ok)
       ∙ (ap (λ (x : ℕ). packet 0x7acb87aa (size_of client x) 12 x) is ∙ ap (λ (x : ℕ). packet 0x7acb87aa x 12 n) size_is))
 
-  fails : (r : ℕ) → nonce_refusal (SetUp.fresh_of (side true) 0) body our ≡ r → eqb r 0 ≡ false → in_opening (nonce body) ≡ refused r
-  unfolding SetUp.fresh_of allowed_of body_refusal
-  fails r bad some =
+  fails : (r : Refusal) → check_nonce (SetUp.fresh_of (side true) 0) body our ≡ Err r → in_opening (nonce body) ≡ refused (number r)
+  unfolding SetUp.fresh_of allowed_of check_body
+  fails r bad =
       ap (λ (s : List ℕ). in_opening s) whole
-      ∙ ap (λ (r : Received). of_arrival r.answer) (body_refused client 0x7acb87aa body [] server awaits (ap (λ (x : ℕ). length_refusal server (x + 16)) is ∙ len) refl (lit< tt) (rw is short) (lit< tt) g our r bad some)
+      ∙ ap (λ (r : Received). of_arrival r.answer) (body_refused client 0x7acb87aa body [] server awaits (ap (λ (x : ℕ). check_length server (x + 16)) is ∙ len) refl (lit< tt) (rw is short) (lit< tt) g our r bad)
 
 timed-small : (t : ℕ) → Small (timed t)
 timed-small t = small-nonce 0 0 2 t (replicate 16 0) (replicate 32 0) (small-zeros 16) (small-zeros 32)
@@ -103,55 +107,55 @@ timed-small t = small-nonce 0 0 2 t (replicate 16 0) (replicate 32 0) (small-zer
 -- ---- the rows
 
 length-16 : Holds length16
-unfolding length16 le bytes clock clocks feed feeds crc may_send stage_after castagnoli_of sum_of length_refusal allowed_of head_refusal padded_of pads_of tail_of words_allowed word_at words_of whole_of rows_of frame_of turn_refusal look_of awaits_after owes_after owed_after closed_of closes_of refused_of agreed_after version_after after_of body_refusal receive_of head_of front_of packet_of
+unfolding length16 le bytes clock clocks feed feeds crc may_send stage_after castagnoli_of sum_of check_length allowed_of check_head padded_of pads_of tail_of words_allowed word_at words_of whole_of rows_of frame_of check_turn look_of awaits_after owes_after owed_after closed_of closes_of refused_of agreed_after version_after after_of check_body receive_of head_of front_of packet_of
 length-16 = refl
 
 length-15 : Holds length15
-unfolding length15 le bytes turn_refusal may_send look_of padded_of words_allowed word_at words_of rows_of frame_of length_refusal receive_of
+unfolding number length15 le bytes check_turn may_send look_of padded_of words_allowed word_at words_of rows_of frame_of check_length receive_of
 length-15 = refl
 
 length-1023 : Holds length1023
-unfolding length1023 nonce_refusal least_of cipher_refused encryption_refused server_refuses chosen_of beyond_of near_of nonce_clock clock_of nonce_body nonce_head le bytes length_refusal SetUp.fresh_of
+unfolding number length1023 check_nonce least_of cipher_refused encryption_refused server_refuses chosen_of beyond_of near_of nonce_clock clock_of nonce_body nonce_head le bytes check_length SetUp.fresh_of
 length-1023 = passes (timed 1000 ++ replicate 947 0) 1007 refl refl (lit< tt) (small-append (timed 1000) (replicate 947 0) (timed-small 1000) (small-zeros 947)) refl
 
 length-1024 : Holds length1024
-unfolding length1024 le bytes turn_refusal may_send look_of padded_of words_allowed word_at words_of rows_of frame_of length_refusal receive_of SetUp.fresh_of
+unfolding number length1024 le bytes check_turn may_send look_of padded_of words_allowed word_at words_of rows_of frame_of check_length receive_of SetUp.fresh_of
 length-1024 = refl
 
 number-sent : Holds number_sent
-unfolding number_sent ping_step control_step control_answer send_refusal may_send allowed_of padded_of pads_of tail_of phase_after size_of fits_of sent_of bytes
+unfolding number_sent ping_step control_step control_answer check_send may_send allowed_of padded_of pads_of tail_of phase_after size_of fits_of sent_of bytes
 number-sent = refl
 
 number-received : Holds number_received
-unfolding number_received le bytes clock clocks feed feeds crc may_send stage_after castagnoli_of sum_of length_refusal allowed_of head_refusal padded_of pads_of tail_of words_allowed word_at words_of whole_of rows_of frame_of turn_refusal look_of awaits_after owes_after owed_after closed_of closes_of refused_of agreed_after version_after after_of body_refusal receive_of head_of front_of packet_of
+unfolding number_received le bytes clock clocks feed feeds crc may_send stage_after castagnoli_of sum_of check_length allowed_of check_head padded_of pads_of tail_of words_allowed word_at words_of whole_of rows_of frame_of check_turn look_of awaits_after owes_after owed_after closed_of closes_of refused_of agreed_after version_after after_of check_body receive_of head_of front_of packet_of
 number-received = refl
 
 clock-30-behind : Holds clock30_behind
-unfolding clock30_behind nonce_refusal least_of cipher_refused encryption_refused server_refuses chosen_of beyond_of near_of nonce_clock clock_of nonce_body nonce_head le bytes length_refusal SetUp.fresh_of
+unfolding clock30_behind check_nonce least_of cipher_refused encryption_refused server_refuses chosen_of beyond_of near_of nonce_clock clock_of nonce_body nonce_head le bytes check_length SetUp.fresh_of
 clock-30-behind = passes (timed 970) 60 refl refl (lit< tt) (timed-small 970) refl
 
 clock-30-ahead : Holds clock30_ahead
-unfolding clock30_ahead nonce_refusal least_of cipher_refused encryption_refused server_refuses chosen_of beyond_of near_of nonce_clock clock_of nonce_body nonce_head le bytes length_refusal SetUp.fresh_of
+unfolding clock30_ahead check_nonce least_of cipher_refused encryption_refused server_refuses chosen_of beyond_of near_of nonce_clock clock_of nonce_body nonce_head le bytes check_length SetUp.fresh_of
 clock-30-ahead = passes (timed 1030) 60 refl refl (lit< tt) (timed-small 1030) refl
 
 clock-31-ahead : Holds clock31_ahead
-unfolding clock31_ahead nonce_refusal least_of cipher_refused encryption_refused server_refuses chosen_of beyond_of near_of nonce_clock clock_of nonce_body nonce_head le bytes length_refusal SetUp.fresh_of
-clock-31-ahead = fails (timed 1031) 60 refl refl (lit< tt) (timed-small 1031) 8 refl refl
+unfolding number clock31_ahead check_nonce least_of cipher_refused encryption_refused server_refuses chosen_of beyond_of near_of nonce_clock clock_of nonce_body nonce_head le bytes check_length SetUp.fresh_of
+clock-31-ahead = fails (timed 1031) 60 refl refl (lit< tt) (timed-small 1031) Clocks refl
 
 text-example : Holds text_example
-unfolding text_example read_text text_after le
+unfolding number text_example read_text text_after le
 text-example = refl
 
 actor-once : Holds actor_once
-unfolding actor_once le request_kind kind_of read_extra flags_of actor_of both_of next_of headers_from read_invoke part_of to_server read_message
+unfolding number actor_once le request_kind kind_of read_extra flags_of actor_of both_of next_of headers_from read_invoke part_of to_server read_message
 actor-once = refl
 
 actor-twice : Holds actor_twice
-unfolding actor_twice le request_kind kind_of read_extra flags_of actor_of both_of next_of headers_from read_invoke part_of to_server read_message
+unfolding number actor_twice le request_kind kind_of read_extra flags_of actor_of both_of next_of headers_from read_invoke part_of to_server read_message
 actor-twice = refl
 
 actor-again : Holds actor_again
-unfolding actor_again le request_kind kind_of read_extra flags_of actor_of both_of next_of headers_from read_invoke part_of to_server read_message
+unfolding number actor_again le request_kind kind_of read_extra flags_of actor_of both_of next_of headers_from read_invoke part_of to_server read_message
 actor-again = refl
 
 -- ---- those on loads: the table answers as the model, and the model computes
@@ -182,11 +186,11 @@ reads_at w m r cs =
     let s = stays cs w r.good in
     record { good = s.good; model = s.model ∙ ap (λ (x : Model). model_at x cs) r.model }
 
-answer_of : Heard → AskAnswer
+answer_of : Heard → Result PublisherNumber Refusal
 answer_of (H.asked a) = a
-answer_of (H.replied a) = A.Refused 0
-answer_of (H.cancelled a) = A.Refused 0
-answer_of (H.dropped a out) = A.Refused 0
+answer_of (H.replied a) = Err NoSuchRequest
+answer_of (H.cancelled a) = Err NoSuchRequest
+answer_of (H.dropped a out) = Err NoSuchRequest
 
 asked-as : (w : Table) (m : Model) → Reads w m → (p n : ℕ)
     → asked w p n ≡ of_ask (ask_answer m p (record { 0 = pos n }) p 0)
@@ -242,7 +246,7 @@ unfolding fuller fuller_model
 fuller-reads = reads_at filled filled_model filled-reads (asks 3 4)
 
 filled-loads : model_loads filled_model ≡ loads (16 ∷ 16 ∷ 12 ∷ 0 ∷ 0 ∷ 0 ∷ 0 ∷ 0 ∷ [])
-unfolding filled_model same after matches matching without sum_below next_free ask_refusal accept ask_answer M.ask empty
+unfolding filled_model same after matches matching without sum_below next_free check_ask accept ask_answer M.ask empty
     model_at asks
 filled-loads = refl
 
@@ -250,7 +254,7 @@ loads-filled : loads_of filled ≡ loads (16 ∷ 16 ∷ 12 ∷ 0 ∷ 0 ∷ 0 ∷
 loads-filled = loads-as filled filled_model filled-reads ∙ filled-loads
 
 third-model : of_ask (ask_answer filled_model 2 (record { 0 = pos 13 }) 2 0) ≡ refused 33
-unfolding filled_model same after matches matching without sum_below next_free ask_refusal accept ask_answer M.ask empty
+unfolding number filled_model same after matches matching without sum_below next_free check_ask accept ask_answer M.ask empty
     model_at asks
 third-model = refl
 
@@ -258,7 +262,7 @@ third-refused : asked filled 2 13 ≡ refused 33
 third-refused = asked-as filled filled_model filled-reads 2 13 ∙ third-model
 
 fourth-model : of_ask (ask_answer filled_model 3 (record { 0 = pos 1 }) 3 0) ≡ accepted (pos 1)
-unfolding filled_model same after matches matching without sum_below next_free ask_refusal accept ask_answer M.ask empty
+unfolding filled_model same after matches matching without sum_below next_free check_ask accept ask_answer M.ask empty
     model_at asks
 fourth-model = refl
 
@@ -266,7 +270,7 @@ fourth-accepted : asked filled 3 1 ≡ accepted (pos 1)
 fourth-accepted = asked-as filled filled_model filled-reads 3 1 ∙ fourth-model
 
 load-16-model : of_ask (ask_answer filled_model 0 (record { 0 = pos 17 }) 0 0) ≡ refused 32
-unfolding filled_model same after matches matching without sum_below next_free ask_refusal accept ask_answer M.ask empty
+unfolding number filled_model same after matches matching without sum_below next_free check_ask accept ask_answer M.ask empty
     model_at asks
 load-16-model = refl
 
@@ -274,7 +278,7 @@ load-16 : asked filled 0 17 ≡ refused 32
 load-16 = asked-as filled filled_model filled-reads 0 17 ∙ load-16-model
 
 fuller-loads : model_loads fuller_model ≡ loads (16 ∷ 16 ∷ 12 ∷ 4 ∷ 0 ∷ 0 ∷ 0 ∷ 0 ∷ [])
-unfolding fuller_model filled_model same after matches matching without sum_below next_free ask_refusal accept ask_answer
+unfolding fuller_model filled_model same after matches matching without sum_below next_free check_ask accept ask_answer
     M.ask empty model_at asks
 fuller-loads = refl
 
@@ -282,7 +286,7 @@ loads-fuller : loads_of fuller ≡ loads (16 ∷ 16 ∷ 12 ∷ 4 ∷ 0 ∷ 0 ∷
 loads-fuller = loads-as fuller fuller_model fuller-reads ∙ fuller-loads
 
 fifth-model : of_ask (ask_answer fuller_model 3 (record { 0 = pos 5 }) 3 0) ≡ refused 33
-unfolding fuller_model filled_model same after matches matching without sum_below next_free ask_refusal accept ask_answer
+unfolding number fuller_model filled_model same after matches matching without sum_below next_free check_ask accept ask_answer
     M.ask empty model_at asks
 fifth-model = refl
 
@@ -292,7 +296,7 @@ fifth-refused = asked-as fuller fuller_model fuller-reads 3 5 ∙ fifth-model
 cancelled-model :
     of_ask (ask_answer (model_at fuller_model (H.cancel 0 (record { 0 = pos 1 }) ∷ [])) 3 (record { 0 = pos 5 }) 3 0)
     ≡ accepted (pos 5)
-unfolding fuller_model filled_model take_refusal taken same after matches matching without sum_below next_free ask_refusal
+unfolding fuller_model filled_model check_take taken same after matches matching without sum_below next_free check_ask
     accept ask_answer M.ask empty model_at asks
 cancelled-model = refl
 
@@ -304,7 +308,7 @@ fifth-accepted =
     ∙ cancelled-model
 
 marker-ends : Holds marker_ends
-unfolding marker_ends le request_kind kind_of read_extra flags_of actor_of both_of next_of headers_from read_invoke part_of to_server read_message
+unfolding number marker_ends le request_kind kind_of read_extra flags_of actor_of both_of next_of headers_from read_invoke part_of to_server read_message
 marker-ends = refl
 
 -- ---- the tables

@@ -1,5 +1,5 @@
 -- The starred cases of document 01, "On either side of a line", each in its words. Assumes nothing.
-use Rattle.std.specs.Prelude.{ℕ, zero, suc, Bool, true, false, List, [], ◌∷◌, ◌++◌, pos, replicate}
+use Rattle.std.specs.Prelude.{ℕ, zero, suc, Bool, true, false, List, [], ◌∷◌, ◌++◌, pos, replicate, Some, None}
 use Rattle.wire.specs.Bytes.{bytes}
 use Rattle.link_state.specs.declared.Link.{Link}
 use Rattle.link_state.specs.declared.Settings.{Settings}
@@ -11,11 +11,10 @@ use Rattle.nonce_out.specs.Nonce.{nonce_body}
 use Rattle.keep_alive_out.specs.KeepAlive.{ping_step}
 use Rattle.header.specs.declared.Side.TheVariants.{Server}
 use Rattle.text.specs.TextForm.{read_text}
-use Rattle.invoke.specs.declared.Actor as A
-use Rattle.invoke.specs.declared.Timeout as T
 use Rattle.message.specs.ReadMessage.{read_message}
 use Rattle.message.specs.declared.Message.TheVariants as M
-use Rattle.inflight.specs.Tables.{Table, load_of, ask_of}
+use Rattle.inflight.specs.declared.Table.{Table}
+use Rattle.inflight.specs.Tables.{load_of, ask_of}
 use Rattle.inflight.specs.Tables as Tables
 use Rattle.inflight.specs.Calls.{Call, old_ask, cancel, table_at}
 use Rattle.cases.specs.Outcome.{Outcome, refused, packet, number, text, means, loads, accepted, of_arrival, of_text, of_message, of_ask, Case}
@@ -183,7 +182,7 @@ text_example = of_text example (read_text example 0) is text (0xed ∷ 0x48 ∷ 
 unfoldable pub actor_once : Case
 actor_once =
     invoke (one ++ actor_five)
-    is means (M.Invoke (record { number = pos 1; actor = A.TheVariants.Is (pos 5); timeout = T.TheVariants.Absent; tl2 = false; at = 20; len = 0 })) []
+    is means (M.Invoke (record { number = pos 1; actor = Some (pos 5); timeout = None; tl2 = false; at = 20; len = 0 })) []
 
 -- "The actor header twice: 13"
 unfoldable pub actor_twice : Case
@@ -249,7 +248,7 @@ fifth_accepted = asked (table_at fuller (cancel 0 (record { 0 = pos 1 }) ∷ [])
 unfoldable pub marker_ends : Case
 marker_ends =
     invoke (one ++ (0x54 ∷ 0x4c ∷ 0x32 ∷ 0x29 ∷ 0xbd ∷ 0xaa ∷ 0x68 ∷ 0x75 ∷ []))
-    is means (M.Invoke (record { number = pos 1; actor = A.TheVariants.Absent; timeout = T.TheVariants.Absent; tl2 = true; at = 12; len = 4 })) (0xbd ∷ 0xaa ∷ 0x68 ∷ 0x75 ∷ [])
+    is means (M.Invoke (record { number = pos 1; actor = None; timeout = None; tl2 = true; at = 12; len = 4 })) (0xbd ∷ 0xaa ∷ 0x68 ∷ 0x75 ∷ [])
 
 unfoldable pub other_cases : List Case
 other_cases = loads_fuller ∷ fifth_refused ∷ fifth_accepted ∷ marker_ends ∷ []

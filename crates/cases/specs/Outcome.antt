@@ -1,12 +1,15 @@
 -- An answer of any call, by document 01's numbers and values for each case of its enum; and a row of the table.
 -- Assumes nothing.
-use Rattle.std.specs.Prelude.{ℕ, ◌≡◌, List, [], ◌∷◌, ℤ}
+use Rattle.std.specs.Prelude.{ℕ, ◌≡◌, List, [], ◌∷◌, ℤ, Result, Ok, Err}
 use Rattle.wire.specs.Bytes.{within}
-use Rattle.packet.specs.declared.Arrival as P
-use Rattle.text.specs.declared.Text as T
+use Rattle.packet.specs.declared.Arrival.{Arrival}
+use Rattle.packet.specs.declared.Arrival.TheVariants.{Incomplete, Packet}
+use Rattle.text.specs.declared.Text.{Text}
 use Rattle.message.specs.PartOf.{part_of}
 use Rattle.message.specs.declared.Message as M
-use Rattle.inflight.specs.declared.AskAnswer as A
+use Rattle.inflight.specs.declared.PublisherNumber.{PublisherNumber}
+use Rattle.refusal.specs.Numbers as N
+use Rattle.refusal.specs.declared.Refusal.{Refusal}
 
 pub data Outcome : Type 0 where
   -- a refusal's number
@@ -27,29 +30,29 @@ pub data Outcome : Type 0 where
   accepted : ℤ → Outcome
 
 -- what a receive call answers
-abbrev pub of_arrival : P.Arrival → Outcome
-of_arrival (P.TheVariants.Incomplete k) = waits k
-of_arrival (P.TheVariants.Packet kind consumed at len) = packet kind consumed at len
-of_arrival (P.TheVariants.Refused k) = refused k
+abbrev pub of_arrival : Result Arrival Refusal → Outcome
+of_arrival (Ok (Incomplete k)) = waits k
+of_arrival (Ok (Packet kind consumed at len)) = packet kind consumed at len
+of_arrival (Err k) = refused (N.number k)
 
 -- what reading a text in s answers
-abbrev pub of_text : List ℕ → T.Text → Outcome
-of_text s (T.TheVariants.Found at len next) = text (within s at len)
-of_text s (T.TheVariants.Refused k) = refused k
+abbrev pub of_text : List ℕ → Result Text Refusal → Outcome
+of_text s (Ok t) = text (within s t.at t.len)
+of_text s (Err k) = refused (N.number k)
 
 -- what reading the body s answers
-abbrev pub of_message : List ℕ → M.Message → Outcome
-of_message s (M.TheVariants.Invoke i) = means (M.TheVariants.Invoke i) (part_of s (M.TheVariants.Invoke i))
-of_message s (M.TheVariants.Cancel n) = means (M.TheVariants.Cancel n) []
-of_message s M.TheVariants.ClientFin = means M.TheVariants.ClientFin []
-of_message s (M.TheVariants.Result r) = means (M.TheVariants.Result r) (part_of s (M.TheVariants.Result r))
-of_message s M.TheVariants.ServerFin = means M.TheVariants.ServerFin []
-of_message s (M.TheVariants.Refused k) = refused k
+abbrev pub of_message : List ℕ → Result M.Message Refusal → Outcome
+of_message s (Ok (M.TheVariants.Invoke i)) = means (M.TheVariants.Invoke i) (part_of s (Ok (M.TheVariants.Invoke i)))
+of_message s (Ok (M.TheVariants.Cancel n)) = means (M.TheVariants.Cancel n) []
+of_message s (Ok M.TheVariants.ClientFin) = means M.TheVariants.ClientFin []
+of_message s (Ok (M.TheVariants.Result r)) = means (M.TheVariants.Result r) (part_of s (Ok (M.TheVariants.Result r)))
+of_message s (Ok M.TheVariants.ServerFin) = means M.TheVariants.ServerFin []
+of_message s (Err k) = refused (N.number k)
 
 -- what an ask answers
-abbrev pub of_ask : A.AskAnswer → Outcome
-of_ask (A.TheVariants.Accepted n) = accepted n.0
-of_ask (A.TheVariants.Refused k) = refused k
+abbrev pub of_ask : Result PublisherNumber Refusal → Outcome
+of_ask (Ok n) = accepted n.0
+of_ask (Err k) = refused (N.number k)
 
 -- a case: what our definitions give, and what document 01 says
 pub record Case : Type 0 where

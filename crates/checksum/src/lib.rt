@@ -8,53 +8,54 @@ ghost use Rattle.std.specs.Prelude.{◌≡◌};
 ghost use Rattle.crc.specs.Crc.{reflected, crc, feeds, update};
 ghost use Rattle.crc.specs.declared.Polynomial.TheVariants.{Ieee, Castagnoli};
 
-// From this length on setting up the large table pays.
+use crc::Polynomial;
+
+// From this length on the large table pays.
 const LONG: usize = 256;
 
-fn fed32(c: u32, s: &[u8]) -> u32
-    ensures { result ≡ feeds (reflected Ieee) c s.now }
+fn fed(kind: Polynomial, c: u32, s: &[u8]) -> u32
+    ensures { result ≡ feeds (reflected kind) c s.now }
 {
     if s.len() < LONG {
-        crc_short::half_bytes32(c, s)
+        crc_short::half_bytes(kind, c, s)
     } else {
-        crc_sliced::sliced32(c, s)
+        crc_sliced::sliced(kind, c, s)
     }
 }
 
-fn fed32c(c: u32, s: &[u8]) -> u32
-    ensures { result ≡ feeds (reflected Castagnoli) c s.now }
+// The checksum of some bytes followed by s, where previous is that of those bytes, and 0 of none.
+fn continued(kind: Polynomial, previous: u32, s: &[u8]) -> u32
+    ensures { result ≡ update (reflected kind) previous s.now }
 {
-    if s.len() < LONG {
-        crc_short::half_bytes32c(c, s)
-    } else {
-        crc_sliced::sliced32c(c, s)
-    }
+    fed(kind, previous ^ 0xffff_ffff, s) ^ 0xffff_ffff
 }
+
+// Kept: a function for each polynomial, since the C interface calls them by these names, all over `continued`.
 
 // CRC-32 of s.
 pub fn crc32(s: &[u8]) -> u32
     ensures { result ≡ crc (reflected Ieee) s.now }
 {
-    fed32(0xffff_ffff, s) ^ 0xffff_ffff
+    continued(Polynomial::Ieee, 0, s)
 }
 
 // CRC-32C of s.
 pub fn crc32c(s: &[u8]) -> u32
     ensures { result ≡ crc (reflected Castagnoli) s.now }
 {
-    fed32c(0xffff_ffff, s) ^ 0xffff_ffff
+    continued(Polynomial::Castagnoli, 0, s)
 }
 
 // CRC-32 of some bytes followed by s, where previous is that of those bytes.
 pub fn crc32_update(previous: u32, s: &[u8]) -> u32
     ensures { result ≡ update (reflected Ieee) previous s.now }
 {
-    fed32(previous ^ 0xffff_ffff, s) ^ 0xffff_ffff
+    continued(Polynomial::Ieee, previous, s)
 }
 
 // CRC-32C of some bytes followed by s, where previous is that of those bytes.
 pub fn crc32c_update(previous: u32, s: &[u8]) -> u32
     ensures { result ≡ update (reflected Castagnoli) previous s.now }
 {
-    fed32c(previous ^ 0xffff_ffff, s) ^ 0xffff_ffff
+    continued(Polynomial::Castagnoli, previous, s)
 }

@@ -2,6 +2,8 @@
 //
 // A slice passes as a pointer and a length. Nothing here computes anything: what a checksum is, is said by the crate
 // `crc`. include/relay.h declares the functions for C, bindings/rust for Rust.
+//
+// Kept: two functions for each polynomial, since the C interface has them.
 #![tactic(auto)]
 
 ghost use Rattle.std.specs.Prelude.{◌≡◌};

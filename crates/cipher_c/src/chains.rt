@@ -5,23 +5,23 @@ ghost use Rattle.aes.specs.Cbc.{encipher_answer, encipher_buffer, decipher_answe
 ghost use Rattle.cipher_c.specs.CipherFields.{chained_fields};
 
 use crate::{RelayChained, RelayRoundKeys, RelayVector};
-use aes::{Answer, Chained};
 use aes_decipher::decipher;
 use aes_encipher::encipher;
+use refusal::Refusal;
 
-fn chained_fields(c: Chained) -> RelayChained
-    ensures { result ≡ chained_fields c }
+// After a refusal the vector is v, the one that was given.
+#[tactic(auto, unfolding(crate::specs::CipherFields::chained_fields))]
+fn chained_fields(v: [u8; 16], answer: Result<[u8; 16], Refusal>) -> RelayChained
+    ensures { result ≡ chained_fields v answer }
 {
-    let answer = c.answer;
-    let bytes = c.vector;
     match answer {
-        Answer::Done => RelayChained {
+        Ok(n) => RelayChained {
             refusal: 0,
-            vector: RelayVector { bytes },
+            vector: RelayVector { bytes: n },
         },
-        Answer::Refused(k) => RelayChained {
-            refusal: k,
-            vector: RelayVector { bytes },
+        Err(k) => RelayChained {
+            refusal: u8::from(k),
+            vector: RelayVector { bytes: v },
         },
     }
 }
@@ -33,13 +33,12 @@ pub extern "C" fn relay_encipher(
     keys: RelayRoundKeys,
     vector: RelayVector,
 ) -> RelayChained
-    ensures { (result ≡ chained_fields (encipher_answer keys.bytes vector.bytes buf.old))
-        × (buf.new ≡ encipher_buffer keys.bytes vector.bytes buf.old) }
+    ensures answer { result ≡ chained_fields vector.bytes (encipher_answer keys.bytes vector.bytes buf.old) }
+    ensures buffer { buf.new ≡ encipher_buffer keys.bytes vector.bytes buf.old }
 {
     let w = keys.bytes;
     let v = vector.bytes;
-    let c = encipher(w, v, buf);
-    chained_fields(c)
+    chained_fields(v, encipher(w, v, buf))
 }
 
 // The blocks of the buffer, deciphered in place.
@@ -49,12 +48,10 @@ pub extern "C" fn relay_decipher(
     keys: RelayRoundKeys,
     vector: RelayVector,
 ) -> RelayChained
-    ensures { (result ≡ chained_fields (decipher_answer vector.bytes buf.old))
-        × (buf.new
-        ≡ decipher_buffer (back_cipher keys.bytes) vector.bytes buf.old) }
+    ensures answer { result ≡ chained_fields vector.bytes (decipher_answer vector.bytes buf.old) }
+    ensures buffer { buf.new ≡ decipher_buffer (back_cipher keys.bytes) vector.bytes buf.old }
 {
     let d = keys.bytes;
     let v = vector.bytes;
-    let c = decipher(d, v, buf);
-    chained_fields(c)
+    chained_fields(v, decipher(d, v, buf))
 }

@@ -30,6 +30,7 @@ pub struct RelayVector {
 }
 
 // The vector for the next call; where refusal is not 0, it is the refusal's number, and buffer and vector stay.
+// Kept: numbers and flags in place of a `Result` or an `Option`, since the C interface has these fields.
 #[repr(C)]
 #[derive(Clone, Copy)]
 pub struct RelayChained {

@@ -10,18 +10,20 @@ use Rattle.link_state.specs.declared.Moment.{Moment}
 use Rattle.link_state.specs.SetUp.{fresh_of}
 use Rattle.nonce_out.specs.Nonce.{version_of}
 use Rattle.nonce_in.specs.Fields.{point_place, nonce_of}
-use Rattle.nonce_in.specs.declared.NonceRead.{NonceRead}
+use Rattle.nonce_in.specs.declared.NonceFields.{NonceFields}
 use Rattle.pair.specs.Opens.{Choices, made_of, both_of, Meet, Caller, Able}
 use Rattle.pair.proofs.Opening.{got1}
 use Rattle.pair.proofs.NonceBack.{Tells, server-reads, client-reads}
 use Rattle.cipher_choice.specs.Derives.{Address, end_by, read_end, version_by, point_by}
 use Rattle.cipher_choice.specs.Derives.{Nonces, nonces_of, Known, derived_by, Addresses, client_knows, server_knows}
+use Rattle.std.specs.Prelude.{Result}
+use Rattle.refusal.specs.declared.Refusal.{Refusal}
 
 -- what a body that tells so is read as
 module _ (body : List ℕ) (time : ℕ) (random point : List ℕ) (t : Tells body time random point) where
   reads_end : (a : Address) → read_end body a ≡ record { random = random; time = time; ip = a.ip; port = a.port }
   reads_end a =
-      ap (λ (r : NonceRead). end_by r body a) t.0
+      ap (λ (r : Result NonceFields Refusal). end_by r body a) t.0
       ∙ ap (λ (x : List ℕ). record { random = x; time = time; ip = a.ip; port = a.port }) t.1.0
 
   reads-version : version_by (nonce_of body) ≡ 2
@@ -29,7 +31,7 @@ module _ (body : List ℕ) (time : ℕ) (random point : List ℕ) (t : Tells bod
 
   reads-point : point_by (nonce_of body) body ≡ point
   unfolding point_place
-  reads-point = ap (λ (r : NonceRead). point_by r body) t.0 ∙ t.1.1
+  reads-point = ap (λ (r : Result NonceFields Refusal). point_by r body) t.0 ∙ t.1.1
 
 -- two fresh links that meet, both with the cipher
 module _ (x y : Choices) (meet : Meet x y) (both : both_of x y ≡ true) (c s : Caller) (b1 b2 b3 b4 : List ℕ)

@@ -12,11 +12,11 @@ use Rattle.wire.specs.Bytes.{bytes}
 use Rattle.md5_hash.specs.Md5 as md
 use Rattle.sha1_hash.specs.Sha1 as sh
 use Rattle.key_message.specs.Message.{size_of, size_or_refusal, message}
-use Rattle.key_message.specs.declared.InitMessage.{InitMessage}
-use Rattle.key_message.specs.declared.InitMessage.TheVariants.{Size, Refused}
 use Rattle.link_keys.specs.Keys.{key_of, vector_of, with_keys, derived}
 use Rattle.cipher_laws.specs.Sizes.{Bytes, Sized}
-use Rattle.cipher_choice.specs.Derives.{Known, derived_by}
+use Rattle.cipher_choice.specs.Derives.{Known, derived_by, kept_of}
+use Rattle.std.specs.Prelude.{Err, Result, Ok}
+use Rattle.refusal.specs.declared.Refusal.{Refusal}
 
 low : (x : ℕ) → x % 256 < 256
 low x = omega arith
@@ -47,7 +47,7 @@ key-sized m =
 
 module _ (k : Known) (from_server : Bool) (key b : List ℕ) where
   -- of a derivation that is refused they are zeros
-  pub derived-sized : Sized 32 (derived_by k from_server key b).key × Sized 16 (derived_by k from_server key b).vector
+  pub derived-sized : Sized 32 (kept_of (derived_by k from_server key b)).key × Sized 16 (kept_of (derived_by k from_server key b)).vector
   unfolding derived with_keys
   derived-sized = go (size_or_refusal k.version (length key) (length b))
     where
@@ -58,14 +58,14 @@ module _ (k : Known) (from_server : Bool) (key b : List ℕ) where
       zero-bytes zero = tt
       zero-bytes (suc n) = (lit< tt, zero-bytes n)
 
-      go : (a : InitMessage) → Sized 32 (with_keys a m).key × Sized 16 (with_keys a m).vector
-      go (Size n) = (key-sized m, vector-sized m)
-      go (Refused r) = (record { long = refl; low = zero-bytes 32 }, record { long = refl; low = zero-bytes 16 })
+      go : (a : Result ℕ Refusal) → Sized 32 (kept_of (with_keys a m)).key × Sized 16 (kept_of (with_keys a m)).vector
+      go (Ok n) = (key-sized m, vector-sized m)
+      go (Err r) = (record { long = refl; low = zero-bytes 32 }, record { long = refl; low = zero-bytes 16 })
 
   -- NOT REFUSED: with a key of up to 4,096 bytes and room for the message of version 2
   pub with-room : k.version ≡ 2 → length key ≤ 4096 → 118 + length key ≤ length b
       → derived_by k from_server key b
-      ≡ with_keys (Size (118 + length key)) (message 2 from_server k.ends key k.shared)
+      ≡ with_keys (Ok (118 + length key)) (message 2 from_server k.ends key k.shared)
   unfolding derived size_or_refusal size_of
   with-room two short room =
       rw (two, le-ltb 4096 (length key) short, le-ltb (length b) (118 + length key) room)

@@ -4,7 +4,6 @@ use native.Mathlib.Omega.{arith}
 use mathlib.Core.Path.{◌≡◌, refl, ap, ◌∙◌}
 use mathlib.Core.Bool.{Bool, true, false, not}
 use mathlib.Core.List.{List, [], ◌∷◌}
-use mathlib.Core.Option.{Option}
 use Prim.Native.Nat.{ℕ, ◌≤◌}
 use lib.ListN.{length}
 use lib.Dec.{ltb, eqb}
@@ -12,24 +11,26 @@ use Rattle.wire.specs.Choice.{pick}
 use Rattle.link_state.specs.declared.Link.{Link}
 use Rattle.link_state.specs.declared.Settings.{Settings}
 use Rattle.link_state.specs.declared.Moment.{Moment}
-use Rattle.link_state.specs.declared.SetUp.TheVariants.{Ready}
 use Rattle.link_state.specs.SetUp.{fresh_of, key_id_of, set_up_of}
 use Rattle.link_state.proofs.SetUpLaws.{set-up-took}
 use Rattle.link_cipher.specs.Chosen.{encryption_at, server_refuses, client_refuses}
 use Rattle.link_cipher.specs.Chosen.{encryption_refused, chosen_of, cipher_refused}
-use Rattle.packet.specs.Allowed.{allowed_of, refuses}
+use Rattle.packet.specs.Allowed.{allowed_of}
 use Rattle.opening.specs.Clock.{near_of}
-use Rattle.opening.specs.Nonce.{least_of, version_at, beyond_of, nonce_refusal}
+use Rattle.opening.specs.Nonce.{least_of, version_at, beyond_of, check_nonce}
 use Rattle.link_next.specs.Next.{closed_of, ciphered_after, after_of}
-use Rattle.link.specs.Receive.{body_refusal}
+use Rattle.link.specs.Receive.{check_body}
 use Rattle.send_rules.specs.Sent.{sent_of}
 use Rattle.send_rules.specs.declared.Step.{Step}
 use Rattle.flush.specs.Flush.{flushed_of}
 use Rattle.link_calls.specs.Calls.{Call, receives, sends, flushes, after_call, after_calls}
-use Rattle.link_calls.proofs.Ways.{refuses-none, receive-ways, send-ways, flush-ways}
+use Rattle.link_calls.proofs.Ways.{receive-ways, send-ways, flush-ways}
 use Rattle.link_versions.specs.Heard.{heard_from}
 use Rattle.link_versions.proofs.Accepted.{past-nonces}
 use Rattle.link_versions.proofs.NoOlder.{not-by-sending}
+use Rattle.std.specs.Prelude.{Ok, Option, Result, Err, ⊤}
+use Rattle.refusal.specs.declared.Refusal.TheVariants.{OpeningShort, Clocks, VersionTooOld, Encryption, BeyondOffer}
+use Rattle.refusal.specs.declared.Refusal.{Refusal}
 
 -- ---- clear only
 
@@ -68,7 +69,7 @@ unfolding fresh_of
 clear-fresh set keyid = record { settings = refl; clear = refl }
 
 -- NO CIPHER UNASKED: a link that was set up clear only, with a key or without, is ciphered after no calls
-pub unasked : (set : Settings) (key : Option (List ℕ)) (l : Link) → set_up_of set key ≡ Ready l → set.cipher ≡ false
+pub unasked : (set : Settings) (key : Option (List ℕ)) (l : Link) → set_up_of set key ≡ Ok l → set.cipher ≡ false
     → (cs : List Call) → (after_calls l cs).ciphered ≡ false
 unasked set key l e plain cs =
     (clear-calls set plain l (rw (set-up-took set key l e).0 (clear-fresh set (key_id_of key))) cs).clear
@@ -76,15 +77,17 @@ unasked set key l e plain cs =
 -- ---- cipher only
 
 -- where no row of a Nonce refuses, that of 9 does not
-not-nine : (a b c d f : Bool) → ◌≡◌ {A = ℕ} (pick a 7 (pick b 8 (pick c 24 (pick d 9 (pick f 10 0))))) 0 → d ≡ false
+not-nine : (a b c d f : Bool)
+    → ◌≡◌ {A = Result ⊤ Refusal} (pick a (Err OpeningShort) (pick b (Err Clocks) (pick c (Err VersionTooOld) (pick d (Err Encryption) (pick f (Err BeyondOffer) (Ok tt)))))) (Ok tt)
+    → d ≡ false
 not-nine a b c false f h = refl
-not-nine true b c true f h = absurd (omega (arith, h))
-not-nine false true c true f h = absurd (omega (arith, h))
-not-nine false false true true f h = absurd (omega (arith, h))
-not-nine false false false true f h = absurd (omega (arith, h))
+not-nine true b c true f h = cc
+not-nine false true c true f h = cc
+not-nine false false true true f h = cc
+not-nine false false false true f h = cc
 
-taken : (l : Link) (b : List ℕ) (m : Moment) → nonce_refusal l b m ≡ 0 → cipher_refused l b ≡ false
-unfolding nonce_refusal
+taken : (l : Link) (b : List ℕ) (m : Moment) → check_nonce l b m ≡ Ok tt → cipher_refused l b ≡ false
+unfolding check_nonce
 taken l b m h =
     not-nine (ltb (length b) (least_of (version_at b))) (not (near_of b m)) (ltb (version_at b) l.set.lowest)
     (cipher_refused l b) (beyond_of l.set (version_at b)) h
@@ -119,13 +122,13 @@ soon true = omega arith
 soon false = omega arith
 
 module _ (set : Settings) (has : set.cipher ≡ true) (alone : set.only ≡ true) (l : Link) (h : Hidden set l) where
-  nonce-hides : (kind : ℕ) (b : List ℕ) (m : Moment) → refuses (body_refusal l kind b m) ≡ false
+  nonce-hides : (kind : ℕ) (b : List ℕ) (m : Moment) → check_body l kind b m ≡ Ok tt
       → eqb kind 0x7acb87aa ≡ true → (after_of l kind b m).ciphered ≡ true
-  unfolding body_refusal after_of ciphered_after
+  unfolding check_body after_of ciphered_after
   nonce-hides kind b m ok q =
       rw q (chosen-if l.set (encryption_at b) (ap (λ (x : Settings). x.cipher) h.settings ∙ has)
       (ap (λ (x : Settings). x.only) h.settings ∙ alone)
-      (by-settings l b (taken l b m (refuses-none (nonce_refusal l b m) (rw q at ok)))))
+      (by-settings l b (taken l b m (rw q at ok))))
 
   other-keeps : (kind : ℕ) (b : List ℕ) (m : Moment) → eqb kind 0x7acb87aa ≡ false
       → (after_of l kind b m).ciphered ≡ l.ciphered
@@ -137,7 +140,7 @@ module _ (set : Settings) (has : set.cipher ≡ true) (alone : set.only ≡ true
   after-set kind b m = h.settings
 
   hidden-after : (kind : ℕ) (b : List ℕ) (m : Moment) → allowed_of l kind ≡ true
-      → refuses (body_refusal l kind b m) ≡ false → Hidden set (after_of l kind b m)
+      → check_body l kind b m ≡ Ok tt → Hidden set (after_of l kind b m)
   hidden-after kind b m may ok =
       record { settings = after-set kind b m; hidden = λ _. go (eqb kind 0x7acb87aa) refl }
     where
@@ -179,7 +182,7 @@ hidden-fresh set keyid = record { settings = refl; hidden = λ w. absurd (none s
 module _ (set : Settings) (has : set.cipher ≡ true) (alone : set.only ≡ true) where
   -- NEVER CLEAR: a link that was set up cipher only is ciphered as soon as it has the other side's Nonce, after any
   -- calls on any bytes; so it never opens clear; that nothing but Nonces goes over it clear is in proofs/OnlyNonces.antt
-  pub never-clear : (key : Option (List ℕ)) (l : Link) → set_up_of set key ≡ Ready l → (cs : List Call)
+  pub never-clear : (key : Option (List ℕ)) (l : Link) → set_up_of set key ≡ Ok l → (cs : List Call)
       → heard_from set.server ≤ (after_calls l cs).stage → (after_calls l cs).ciphered ≡ true
   never-clear key l e cs =
       (hidden-calls set has alone l (rw (set-up-took set key l e).0 (hidden-fresh set (key_id_of key))) cs).hidden

@@ -16,17 +16,15 @@ use Rattle.link_cipher.specs.Chosen.{server_refuses, encryption_refused, chosen_
 use Rattle.packet.specs.Sum.{castagnoli_of}
 use Rattle.packet.specs.Allowed.{allowed_of}
 use Rattle.packet_padding.specs.Padding.{pads_of, tail_of}
-use Rattle.packet.specs.declared.Arrival.TheVariants.{Refused}
-use Rattle.packet_head.specs.Head.{length_refusal}
+use Rattle.packet_head.specs.Head.{check_length}
 use Rattle.packet_out.specs.Size.{size_of, fits_of}
 use Rattle.packet_out.specs.Packet.{packet_of}
-use Rattle.packet_out.specs.declared.Sent.TheVariants.{Written}
 use Rattle.opening.specs.Clock.{nonce_clock, near_of}
-use Rattle.opening.specs.Nonce.{least_of, nonce_refusal}
-use Rattle.link.specs.Look.{turn_refusal}
+use Rattle.opening.specs.Nonce.{least_of, check_nonce}
+use Rattle.link.specs.Look.{check_turn}
 use Rattle.link_next.specs.Next.{closes_of, closed_of, refused_of}
-use Rattle.link.specs.Receive.{body_refusal, gives, refuse, receive_of}
-use Rattle.send_rules.specs.Control.{send_refusal, control_answer, control_step}
+use Rattle.link.specs.Receive.{check_body, gives, refuse, receive_of}
+use Rattle.send_rules.specs.Control.{check_send, control_answer, control_step}
 use Rattle.nonce_out.specs.Nonce.{version_of, nonce_body, our_nonce, nonce_step, nonce_buffer}
 use Rattle.nonce_out.proofs.BodyLaws.{length-nonce, nonce-key-id, nonce-cipher, nonce-version, nonce-time}
 use Rattle.nonce_out.proofs.SentLaws.{nonce-left}
@@ -34,6 +32,9 @@ use Rattle.pair.specs.Opens.{Choices, settings_of, made_of, Caller, Able}
 use Rattle.pair.proofs.RoundTrip.{body_refused}
 use Rattle.pair.proofs.NoncePasses.{near, small-nonce, offer-small, pick_small, point-length, point-small}
 use Rattle.cipher_choice.specs.Nine.{nine_of}
+use Rattle.refusal.specs.declared.Refusal.TheVariants.{Encryption}
+use Rattle.std.specs.Prelude.{Err, Ok}
+use Rattle.refusal.specs.Numbers.{number}
 
 module _ (x y : Choices) where
   -- the row of 9, on the client's offer and KeyID, is the table
@@ -95,8 +96,8 @@ module _ (x y : Choices) (low : y.lowest ≤ 2) (key : x.keyid < 2 ^ 32) (c s : 
       )
       (by-tables x y)
 
-  nine : nine_of x y ≡ true → nonce_refusal server nonce s.heard ≡ 9
-  unfolding nonce_refusal least_of near_of nonce_clock fresh_of
+  nine : nine_of x y ≡ true → check_nonce server nonce s.heard ≡ Err Encryption
+  unfolding check_nonce least_of near_of nonce_clock fresh_of
   nine h =
       simp (
         len,
@@ -108,15 +109,15 @@ module _ (x y : Choices) (low : y.lowest ≤ 2) (key : x.keyid < 2 ^ 32) (c s : 
       )
 
   -- the client's Nonce goes out
-  pub sent : (nonce_step client c.drawn c.told (length b1)).answer ≡ Written 76
+  pub sent : (nonce_step client c.drawn c.told (length b1)).answer ≡ Ok 76
   unfolding nonce_step control_step our_nonce version_of encryption_of sent_key_id sent_point offers_or_takes control_answer fits_of
-      fresh_of send_refusal may_send allowed_of size_of tail_of pads_of
+      fresh_of check_send may_send allowed_of size_of tail_of pads_of
   sent = simp (len, le-ltb (length b1) 76 g.room1)
 
   refused : nine_of x y ≡ true
-      → receive_of server (nonce_buffer client c.drawn c.told b1) s.heard ≡ refuse server 9
-  unfolding our_nonce version_of encryption_of sent_key_id sent_point offers_or_takes castagnoli_of turn_refusal may_send length_refusal
-      allowed_of body_refusal pads_of fresh_of
+      → receive_of server (nonce_buffer client c.drawn c.told b1) s.heard ≡ refuse server Encryption
+  unfolding our_nonce version_of encryption_of sent_key_id sent_point offers_or_takes castagnoli_of check_turn may_send check_length
+      allowed_of check_body pads_of fresh_of
   refused h =
       let P : List ℕ = packet_of client 0x7acb87aa nonce in
       ap (λ (t : List ℕ). receive_of server t s.heard) (nonce-left client c.drawn b1 c.told 76 sent)
@@ -126,10 +127,10 @@ module _ (x y : Choices) (low : y.lowest ≤ 2) (key : x.keyid < 2 ^ 32) (c s : 
       (rw len (lit< tt)) (lit< tt)
       (small-nonce keyid offered 2 c.told.time c.drawn.random point g.client_bytes
       (point-small x.cipher _ g.client_point_bytes))
-      s.heard 9 (nine h) refl
+      s.heard Encryption (nine h)
 
   -- NO OPENING: where the tables say 9, the server answers 9 to the client's Nonce and closes
   pub unmet : nine_of x y ≡ true
-      → receive_of server (nonce_buffer client c.drawn c.told b1) s.heard ≡ gives (closed_of server) (Refused 9)
-  unfolding refused_of closes_of
+      → receive_of server (nonce_buffer client c.drawn c.told b1) s.heard ≡ gives (closed_of server) (Err Encryption)
+  unfolding refused_of closes_of number
   unmet h = refused h

@@ -1,6 +1,6 @@
 -- What either driver derives its keys from: of its own Nonce what it gave to the send call, of the other's what it
 -- reads in the body that its receive call named (document 02, A8 and A9). Assumes nothing.
-use Rattle.std.specs.Prelude.{ℕ, Bool, List, length, replicate}
+use Rattle.std.specs.Prelude.{ℕ, Bool, List, length, replicate, Result, Ok, Err}
 use Rattle.wire.specs.Bytes.{within}
 use Rattle.link_state.specs.declared.Link.{Link}
 use Rattle.link_state.specs.declared.Moment.{Moment}
@@ -9,13 +9,13 @@ use Rattle.link.specs.Receive.{receive_of}
 use Rattle.nonce_out.specs.Nonce.{version_of, nonce_step, nonce_buffer}
 use Rattle.nonce_out.specs.declared.Drawn.{Drawn}
 use Rattle.nonce_in.specs.Fields.{nonce_of}
-use Rattle.nonce_in.specs.declared.NonceRead.{NonceRead}
-use Rattle.nonce_in.specs.declared.NonceRead.TheVariants.{Fields, Refused}
+use Rattle.nonce_in.specs.declared.NonceFields.{NonceFields}
 use Rattle.key_front.specs.declared.End.{End}
 use Rattle.key_front.specs.declared.Ends.{Ends}
 use Rattle.link_keys.specs.Keys.{derived}
 use Rattle.link_keys.specs.declared.Derived.{Derived}
 use Rattle.pair.specs.Opens.{Caller}
+use Rattle.refusal.specs.declared.Refusal.{Refusal}
 
 -- the address of an end, which version 0 alone uses
 pub record Address : Type 0 where
@@ -27,22 +27,22 @@ abbrev pub own_end : Drawn → Moment → Address → End
 own_end drawn told a = record { random = drawn.random; time = told.time; ip = a.ip; port = a.port }
 
 -- the other's, by its Nonce's body
-abbrev pub end_by : NonceRead → List ℕ → Address → End
-end_by (Fields f) body a =
+abbrev pub end_by : Result NonceFields Refusal → List ℕ → Address → End
+end_by (Ok f) body a =
     record { random = within body f.random.at f.random.len; time = f.time; ip = a.ip; port = a.port }
-end_by (Refused k) body a = record { random = replicate 16 0; time = 0; ip = a.ip; port = a.port }
+end_by (Err k) body a = record { random = replicate 16 0; time = 0; ip = a.ip; port = a.port }
 
 abbrev pub read_end : List ℕ → Address → End
 read_end body a = end_by (nonce_of body) body a
 
 -- the version in it, and the point that the card is given
-abbrev pub version_by : NonceRead → ℕ
-version_by (Fields f) = f.version
-version_by (Refused k) = 0
+abbrev pub version_by : Result NonceFields Refusal → ℕ
+version_by (Ok f) = f.version
+version_by (Err k) = 0
 
-abbrev pub point_by : NonceRead → List ℕ → List ℕ
-point_by (Fields f) body = within body f.point.at f.point.len
-point_by (Refused k) body = replicate 32 0
+abbrev pub point_by : Result NonceFields Refusal → List ℕ → List ℕ
+point_by (Ok f) body = within body f.point.at f.point.len
+point_by (Err k) body = replicate 32 0
 
 -- ---- the Nonces of two links, as in `opens` of crate pair, in the buffers b1 and b2
 
@@ -76,8 +76,18 @@ pub record Known : Type 0 where
   pub shared : List ℕ
 
 -- the derivation for a direction, with this key, into the buffer b
-abbrev pub derived_by : Known → Bool → List ℕ → List ℕ → Derived
+abbrev pub derived_by : Known → Bool → List ℕ → List ℕ → Result Derived Refusal
 derived_by k from_server key b = derived k.version from_server k.ends key k.shared b
+
+-- its answer alone, without key and vector
+abbrev pub answer_of : Result Derived Refusal → Result ℕ Refusal
+answer_of (Ok d) = Ok d.size
+answer_of (Err k) = Err k
+
+-- what a driver has of it: of one that is refused, zeros
+abbrev pub kept_of : Result Derived Refusal → Derived
+kept_of (Ok d) = d
+kept_of (Err k) = record { size = 0; key = replicate 32 0; vector = replicate 16 0 }
 
 -- the addresses of client and server
 pub record Addresses : Type 0 where

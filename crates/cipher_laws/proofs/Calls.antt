@@ -8,13 +8,14 @@ use borrow.Author.Tests.{eq-eqb, ne_eqb, eqb-true}
 use lib.Dec.{eqb}
 use lib.ListN.{length, length-append}
 use lib.Seq.{take_all}
+use Rattle.std.specs.Prelude.{Ok, Err}
+use Rattle.std.specs.Result.{IsOk}
+use Rattle.refusal.specs.declared.Refusal.TheVariants.{NotWholeBlocks}
 use Rattle.wire.specs.Choice.{pick}
 use Rattle.aes.specs.Aes.{add, keys, cipher, decipher}
 use Rattle.aes.specs.Back.{back_keys, back_cipher}
-use Rattle.aes.specs.Cbc.{block_at, vector, encipher, encipher_answer, encipher_buffer}
-use Rattle.aes.specs.Cbc.{before, decipher_all, decipher_answer, decipher_buffer}
-use Rattle.aes.specs.declared.Chained.{Chained}
-use Rattle.aes.specs.declared.Answer.TheVariants.{Done, Refused}
+use Rattle.aes.specs.Cbc.{block_at, vector, encipher, encipher_answer, encipher_buffer, encipher_vector, next_vector}
+use Rattle.aes.specs.Cbc.{before, decipher_all, decipher_answer, decipher_buffer, decipher_vector}
 use Rattle.cipher_laws.specs.Sizes.{Bytes, Sized, Whole}
 use Rattle.cipher_laws.specs.Pieces.{forth, back, Joined, Stays}
 use Rattle.cipher_laws.proofs.Blocks.{Block, block_of, bytes-in, long-in}
@@ -55,18 +56,18 @@ pub block-undone : {key s : List ℕ} → Sized 32 key → Sized 16 s → deciph
 block-undone h b = undo (keys_of h) (block_of b)
 
 -- a buffer of whole blocks is never refused
-pub done-forth : (w v s : List ℕ) → Whole s → (encipher_answer w v s).answer ≡ Done
+pub done-forth : (w v s : List ℕ) → Whole s → IsOk (encipher_answer w v s)
 unfolding encipher_answer
 done-forth w v s e = rw (eq-eqb (length s % 16) 0 e)
 
-pub done-back : (v s : List ℕ) → Whole s → (decipher_answer v s).answer ≡ Done
+pub done-back : (v s : List ℕ) → Whole s → IsOk (decipher_answer v s)
 unfolding decipher_answer
 done-back v s e = rw (eq-eqb (length s % 16) 0 e)
 
 -- ---- JOINED: two calls in a row, the second from the first one's vector, are one on the joined buffer, both ways
 
 pub joined-forth : (w v s t : List ℕ) → Whole s → Whole t → Joined (forth w) v s t
-unfolding encipher_buffer encipher_answer
+unfolding encipher_buffer encipher_answer next_vector
 joined-forth w v s t e f =
     let n = length s / 16 in
     let m = length t / 16 in
@@ -79,10 +80,11 @@ joined-forth w v s t e f =
     record {
       buffers = rw (p, a, b, q) (encipher-on v s t n i w m);
       answers = rw (p, a, b, q, vector_on v s t n i w m) refl;
+      vectors = rw (p, a, b, q, vector_on v s t n i w m) refl;
     }
 
 pub joined_back : (d v s t : List ℕ) → Whole s → Whole t → Joined (back d) v s t
-unfolding decipher_buffer decipher_answer
+unfolding decipher_buffer decipher_answer next_vector
 joined_back d v s t e f =
     let n = length s / 16 in
     let m = length t / 16 in
@@ -95,49 +97,55 @@ joined_back d v s t e f =
     record {
       buffers = rw (p, a, b, q) (decipher-on v s t n i (back_cipher d) m);
       answers = rw (p, a, b, q, before_on v s t n i m) refl;
+      vectors = rw (p, a, b, q, before_on v s t n i m) refl;
     }
 
 -- where t is not of whole blocks, one call on both and the second of two are refused alike. The one then leaves all as
 -- it was; of the two the first was done: by `stays-forth` and `stays-back`
 
-picked : (b : Bool) (x y x' y' : Chained) → x.answer ≡ x'.answer → y.answer ≡ y'.answer
-    → (pick b x y).answer ≡ (pick b x' y').answer
-picked true x y x' y' p q = p
-picked false x y x' y' p q = q
-
 pub answered-forth : (w v s t : List ℕ) → Whole s
-    → (encipher_answer w v (s ++ t)).answer ≡ (encipher_answer w (encipher_answer w v s).vector t).answer
+    → encipher_answer w v (s ++ t) ≡ encipher_answer w (encipher_vector w v s) t
 unfolding encipher_answer
-answered-forth w v s t e =
-    let l : length (s ++ t) ≡ length s + length t = length-append s t in
-    let m : length (s ++ t) % 16 ≡ length t % 16 = omega arith in
-    rw m (picked (eqb (length t % 16) 0) _ _ _ _ refl refl)
+answered-forth w v s t e = go (eqb (length t % 16) 0) refl
+  where
+    go : (b : Bool) → eqb (length t % 16) 0 ≡ b
+        → encipher_answer w v (s ++ t) ≡ encipher_answer w (encipher_vector w v s) t
+    go true f = (joined-forth w v s t e (eqb-true (length t % 16) 0 f)).answers
+    go false f =
+        let l : length (s ++ t) ≡ length s + length t = length-append s t in
+        let m : length (s ++ t) % 16 ≡ length t % 16 = omega arith in
+        rw (m, f)
 
 pub answered-back : (v s t : List ℕ) → Whole s
-    → (decipher_answer v (s ++ t)).answer ≡ (decipher_answer (decipher_answer v s).vector t).answer
+    → decipher_answer v (s ++ t) ≡ decipher_answer (decipher_vector v s) t
 unfolding decipher_answer
-answered-back v s t e =
-    let l : length (s ++ t) ≡ length s + length t = length-append s t in
-    let m : length (s ++ t) % 16 ≡ length t % 16 = omega arith in
-    rw m (picked (eqb (length t % 16) 0) _ _ _ _ refl refl)
+answered-back v s t e = go (eqb (length t % 16) 0) refl
+  where
+    go : (b : Bool) → eqb (length t % 16) 0 ≡ b
+        → decipher_answer v (s ++ t) ≡ decipher_answer (decipher_vector v s) t
+    go true f = (joined_back s v s t e (eqb-true (length t % 16) 0 f)).answers
+    go false f =
+        let l : length (s ++ t) ≡ length s + length t = length-append s t in
+        let m : length (s ++ t) % 16 ≡ length t % 16 = omega arith in
+        rw (m, f)
 
 pub stays-forth : (w v s : List ℕ) → (Whole s → ⊥) → Stays (forth w) v s
-unfolding encipher_buffer encipher_answer
+unfolding encipher_buffer encipher_answer next_vector
 stays-forth w v s n =
     let f = ne_eqb (length s % 16) 0 n in
-    record { buffers = rw f; answers = rw f }
+    record { buffers = rw f; answers = rw f; vectors = rw f }
 
 pub stays-back : (d v s : List ℕ) → (Whole s → ⊥) → Stays (back d) v s
-unfolding decipher_buffer decipher_answer
+unfolding decipher_buffer decipher_answer next_vector
 stays-back d v s n =
     let f = ne_eqb (length s % 16) 0 n in
-    record { buffers = rw f; answers = rw f }
+    record { buffers = rw f; answers = rw f; vectors = rw f }
 
 -- ---- ONE BLOCK: a call on it is the standard's cipher of the sum with the vector, and back
 
 pub one_block : (w v s : List ℕ) → length s ≡ 16
     → (encipher_buffer w v s ≡ cipher w (add v s))
-    × (encipher_answer w v s ≡ record { answer = Done; vector = cipher w (add v s) })
+    × (encipher_answer w v s ≡ Ok (cipher w (add v s)))
 unfolding encipher_buffer encipher_answer encipher vector block_at
 one_block w v s h = let e = take_all 16 s (omega arith) in (rw (h, e), rw (h, e))
 
@@ -147,7 +155,7 @@ one-back f v s h = let e = take_all 16 s (omega arith) in rw (h, e)
 
 pub one-block-back : {w : List ℕ} (v s : List ℕ) → Sized 240 w → length s ≡ 16
     → (decipher_buffer (back_cipher (back_keys w)) v s ≡ add (decipher w s) v)
-    × (decipher_answer v s ≡ record { answer = Done; vector = s })
+    × (decipher_answer v s ≡ Ok s)
 unfolding decipher_answer before block_at
 one-block-back {w} v s k h =
     let e = take_all 16 s (omega arith) in
@@ -179,14 +187,13 @@ sized-block : {s : List ℕ} → Block s → Sized 16 s
 sized-block b = record { long = long-in b; low = bytes-in b }
 
 pub bytes-forth : {w v : List ℕ} (s : List ℕ) → Sized 240 w → Sized 16 v → Bytes s
-    → Bytes (encipher_buffer w v s) × Sized 16 (encipher_answer w v s).vector
-unfolding encipher_buffer encipher_answer
+    → Bytes (encipher_buffer w v s) × Sized 16 (encipher_vector w v s)
+unfolding encipher_buffer encipher_answer next_vector
 bytes-forth {w} {v} s k hv u = go (eqb (length s % 16) 0) refl
   where
     go : (b : Bool) → eqb (length s % 16) 0 ≡ b
         → Bytes (pick b (encipher w v s (length s / 16)) s)
-        × Sized 16 (pick {A = Chained} b (record { answer = Done; vector = vector w v s (length s / 16) })
-        (record { answer = Refused 37; vector = v })).vector
+        × Sized 16 (next_vector v (pick b (Ok (vector w v s (length s / 16))) (Err NotWholeBlocks)))
     go true e =
         let m = eqb-true (length s % 16) 0 e in
         let n = length s / 16 in
@@ -195,14 +202,13 @@ bytes-forth {w} {v} s k hv u = go (eqb (length s % 16) 0) refl
     go false e = (u, hv)
 
 pub bytes_back : {d v : List ℕ} (s : List ℕ) → Sized 240 d → Sized 16 v → Bytes s
-    → Bytes (decipher_buffer (back_cipher d) v s) × Sized 16 (decipher_answer v s).vector
-unfolding decipher_buffer decipher_answer
+    → Bytes (decipher_buffer (back_cipher d) v s) × Sized 16 (decipher_vector v s)
+unfolding decipher_buffer decipher_answer next_vector
 bytes_back {d} {v} s k hv u = go (eqb (length s % 16) 0) refl
   where
     go : (b : Bool) → eqb (length s % 16) 0 ≡ b
         → Bytes (pick b (decipher_all (back_cipher d) v s (length s / 16)) s)
-        × Sized 16 (pick {A = Chained} b (record { answer = Done; vector = before v s (length s / 16) })
-        (record { answer = Refused 37; vector = v })).vector
+        × Sized 16 (next_vector v (pick b (Ok (before v s (length s / 16))) (Err NotWholeBlocks)))
     go true e =
         let m = eqb-true (length s % 16) 0 e in
         let n = length s / 16 in

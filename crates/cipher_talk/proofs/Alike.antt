@@ -4,20 +4,19 @@ use borrow.Author.Tests.{ltb-false}
 use mathlib.Core.Path.{◌≡◌, refl, sym, ◌∙◌}
 use mathlib.Core.Bool.{Bool, true, false, ◌&&◌, ◌||◌}
 use mathlib.Core.List.{List}
-use mathlib.Core.Option.{some}
 use Prim.Native.Nat.{ℕ, ◌≤◌, ◌<◌, ◌^◌}
 use lib.ListN.{length}
 use lib.Dec.{ltb}
 use Rattle.wire.specs.Choice.{pick}
 use Rattle.wire.proofs.ByteLaws.{Small, le-lt}
 use Rattle.link_state.specs.declared.Link.{Link}
-use Rattle.link_state.specs.declared.SetUp.TheVariants.{Ready}
 use Rattle.link_state.specs.SetUp.{key_id_of, key_unsuitable, key_refused, set_up_of}
 use Rattle.link_state.proofs.SetUpLaws.{set-up-took}
 use Rattle.pair.specs.Opens.{Choices, settings_of, made_of, both_of, Meet, Caller, Able}
 use Rattle.cipher_choice.specs.Derives.{Known, Addresses, Nonces, nonces_of, client_knows, server_knows}
 use Rattle.cipher_choice.proofs.SameKeys.{both-version, same_known}
 use Rattle.cipher_talk.specs.Exchange.{Way}
+use Rattle.std.specs.Prelude.{Ok, Some}
 
 -- a key that a link takes has at most 4,096 bytes
 not-long : (key : List ℕ) → key_unsuitable key ≡ false → length key ≤ 4096
@@ -30,29 +29,29 @@ not-long key fine = ltb-false 4096 (length key) (go (ltb 4096 (length key)) _ fi
 
 -- two links that were set up with the same key, both with the cipher
 module _ (x y : Choices) (key : List ℕ) (bytes : Small key) (client server : Link)
-    (made-c : set_up_of (settings_of false x) (some key) ≡ Ready client)
-    (made-s : set_up_of (settings_of true y) (some key) ≡ Ready server)
+    (made-c : set_up_of (settings_of false x) (Some key) ≡ Ok client)
+    (made-s : set_up_of (settings_of true y) (Some key) ≡ Ok server)
     (has-c : x.cipher ≡ true) (has-s : y.cipher ≡ true)
-    (id-c : x.keyid ≡ key_id_of (some key)) (id-s : y.keyid ≡ key_id_of (some key)) where
+    (id-c : x.keyid ≡ key_id_of (Some key)) (id-s : y.keyid ≡ key_id_of (Some key)) where
   pub both : both_of x y ≡ true
   both = rw (has-c, has-s) refl
 
-  taken : key_refused (settings_of false x) (some key) ≡ false
-  taken = (set-up-took (settings_of false x) (some key) client made-c).1.1
+  taken : key_refused (settings_of false x) (Some key) ≡ false
+  taken = (set-up-took (settings_of false x) (Some key) client made-c).1.1
 
   pub short : length key ≤ 4096
   unfolding key_refused
   short = not-long key taken
 
-  id-fits : key_id_of (some key) < 2 ^ 32
+  id-fits : key_id_of (Some key) < 2 ^ 32
   unfolding key_id_of
   id-fits = le-lt key 0 4 bytes
 
   pub meet : Meet x y
   meet =
       record {
-        client_lowest = (set-up-took (settings_of false x) (some key) client made-c).1.0;
-        server_lowest = (set-up-took (settings_of true y) (some key) server made-s).1.0;
+        client_lowest = (set-up-took (settings_of false x) (Some key) client made-c).1.0;
+        server_lowest = (set-up-took (settings_of true y) (Some key) server made-s).1.0;
         client_not_alone = rw (has-c, has-s) (off x.only);
         server_not_alone = rw (has-c, has-s) (off y.only);
         same_key = λ e. id-c ∙ sym id-s;
@@ -70,10 +69,10 @@ module _ (x y : Choices) (key : List ℕ) (bytes : Small key) (client server : L
       on false = refl
 
   pub client-is : client ≡ made_of false x
-  client-is = rw id-c (set-up-took (settings_of false x) (some key) client made-c).0
+  client-is = rw id-c (set-up-took (settings_of false x) (Some key) client made-c).0
 
   pub server-is : server ≡ made_of true y
-  server-is = rw id-s (set-up-took (settings_of true y) (some key) server made-s).0
+  server-is = rw id-s (set-up-took (settings_of true y) (Some key) server made-s).0
 
   -- the callers, the ways of the Handshakes, and the cards
   module _ (c s : Caller) (b1 b2 : List ℕ) (w3 w4 : Way) (g : Able c s b1 b2 w3.buffer w4.buffer)

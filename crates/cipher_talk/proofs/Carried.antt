@@ -8,8 +8,7 @@ use lib.ListN.{length, take, drop, length-take, length-drop, take-append-drop}
 use lib.Dec.{lit≤}
 use Rattle.aes.specs.Aes.{keys}
 use Rattle.aes.specs.Back.{back_keys, back_cipher}
-use Rattle.aes.specs.Cbc.{encipher_answer, encipher_buffer, decipher_answer, decipher_buffer}
-use Rattle.aes.specs.declared.Chained.{Chained}
+use Rattle.aes.specs.Cbc.{encipher_vector, encipher_buffer, decipher_vector, decipher_buffer, next_vector}
 use Rattle.cipher_laws.specs.Sizes.{Bytes, Sized, Whole}
 use Rattle.cipher_laws.specs.Pieces.{back, passed, carried, AllWhole}
 use Rattle.cipher_laws.proofs.Schedule.{keys_of}
@@ -52,7 +51,7 @@ cut-some (c ∷ cs) last s = omega arith
 -- none of them is refused with 37
 all_done : (v : List ℕ) (ps : List Piece) → AllWhole (blocks_of ps) → AllDone v ps
 all_done v [] h = tt
-all_done v (p ∷ ps) h = (done-back v p.bytes h.0, all_done (decipher_answer v p.bytes).vector ps h.1)
+all_done v (p ∷ ps) h = (done-back v p.bytes h.0, all_done (decipher_vector v p.bytes) ps h.1)
 
 -- ---- deciphered
 
@@ -61,19 +60,19 @@ opened : List ℕ → List ℕ → List Piece → List Piece
 opened d v [] = []
 opened d v (p ∷ ps) =
     record { bytes = decipher_buffer (back_cipher d) v p.bytes; clock = p.clock }
-    ∷ opened d (decipher_answer v p.bytes).vector ps
+    ∷ opened d (decipher_vector v p.bytes) ps
 
 open-joined : (d v : List ℕ) (ps : List Piece) → joined (opened d v ps) ≡ flatten (passed (back d) v (blocks_of ps))
 unfolding opened joined passed flatten
 open-joined d v [] = refl
 open-joined d v (p ∷ ps) =
     ap (λ (x : List ℕ). decipher_buffer (back_cipher d) v p.bytes ++ x)
-    (open-joined d (decipher_answer v p.bytes).vector ps)
+    (open-joined d (decipher_vector v p.bytes) ps)
 
 open-long : (d v : List ℕ) (ps : List Piece) → length (opened d v ps) ≡ length ps
 unfolding opened
 open-long d v [] = refl
-open-long d v (p ∷ ps) = let i = open-long d (decipher_answer v p.bytes).vector ps in omega arith
+open-long d v (p ∷ ps) = let i = open-long d (decipher_vector v p.bytes) ps in omega arith
 
 -- an end after pieces of which it took d, with this vector
 abbrev pub arrived : End → Drained → List ℕ → In
@@ -131,17 +130,17 @@ module _ (b : End) {key v : List ℕ} (s : List ℕ) (hk : Sized 32 key) (hv : S
       ∙ (ap (decipher_buffer (back_cipher d) v) (cut-joined cs last ciphered) ∙ (undone s hk hv low whole).0)))
 
   vector-again : carried (back b.inward.keys) b.inward.vector (blocks_of pieces)
-      ≡ (encipher_answer (keys key) v s).vector
+      ≡ (encipher_vector (keys key) v s)
   vector-again =
       let d = back_keys (keys key) in
       rw (in_keys, vectors)
       ((deciphered d v (blocks_of pieces) blocks).1
-      ∙ (ap (λ (x : List ℕ). (decipher_answer v x).vector) (cut-joined cs last ciphered)
-      ∙ ap (λ (r : Chained). r.vector) (undone s hk hv low whole).1))
+      ∙ (ap (λ (x : List ℕ). (decipher_vector v x)) (cut-joined cs last ciphered)
+      ∙ ap (next_vector v) (undone s hk hv low whole).1))
 
   pub carries : {k2 : Link} {t : List ℕ} {gs : List Got} → Comes b.link (b.held ++ s) gs k2 t
       → all_in b pieces
-      ≡ arrived b (record { link = k2; got = gs; left = t }) (encipher_answer (keys key) v s).vector
+      ≡ arrived b (record { link = k2; got = gs; left = t }) (encipher_vector (keys key) v s)
   carries {k2} {t} {gs} c =
       let ps = opened b.inward.keys b.inward.vector pieces in
       let n : 1 ≤ length ps =

@@ -3,24 +3,29 @@
 use mathlib.Core.Path.{◌≡◌, ap, ap₂, sym, ◌∙◌}
 use mathlib.Core.Bool.{true, false}
 use mathlib.Core.List.{List}
-use mathlib.Core.Option.{some}
 use Prim.Native.Nat.{ℕ, ◌+◌, ◌≤◌}
 use lib.ListN.{length}
 use Rattle.wire.proofs.ByteLaws.{Small}
 use Rattle.link_state.specs.declared.Link.{Link}
-use Rattle.link_state.specs.declared.SetUp.TheVariants.{Ready}
 use Rattle.link_state.specs.SetUp.{key_id_of, set_up_of}
 use Rattle.link_keys.specs.declared.Derived.{Derived}
 use Rattle.pair.specs.Opens.{Choices, settings_of, Caller, Able}
-use Rattle.cipher_choice.specs.Derives.{Known, Addresses, Nonces, nonces_of, client_knows, server_knows}
+use Rattle.cipher_choice.specs.Derives.{Known, kept_of, Addresses, Nonces, nonces_of, client_knows, server_knows}
 use Rattle.cipher_choice.proofs.Sized.{with-room}
 use Rattle.cipher_talk.specs.Exchange.{Secret, secret_of, Way}
 use Rattle.cipher_talk.proofs.Alike.{short, alike, version-2}
+use Rattle.std.specs.Prelude.{Ok, Some, Result}
+use Rattle.refusal.specs.declared.Refusal.{Refusal}
 
 -- what is derived is the same in any two buffers with room
-abbrev of : Derived → Derived → Secret
+abbrev of : Result Derived Refusal → Result Derived Refusal → Secret
 of there back =
-    record { key1 = there.key; vector1 = there.vector; key2 = back.key; vector2 = back.vector }
+    record {
+      key1 = (kept_of there).key;
+      vector1 = (kept_of there).vector;
+      key2 = (kept_of back).key;
+      vector2 = (kept_of back).vector;
+    }
 
 same-secret : (k : Known) (key b d : List ℕ) → k.version ≡ 2 → length key ≤ 4096 → 118 + length key ≤ length b
     → 118 + length key ≤ length d → secret_of k key b ≡ secret_of k key d
@@ -32,10 +37,10 @@ same-secret k key b d two short room-b room-d =
 -- two links that were set up with the same key, both with the cipher; the callers, the ways of the Handshakes, the
 -- cards, and the buffers for the derivations
 module _ (x y : Choices) (key : List ℕ) (bytes : Small key) (client server : Link)
-    (made-c : set_up_of (settings_of false x) (some key) ≡ Ready client)
-    (made-s : set_up_of (settings_of true y) (some key) ≡ Ready server)
+    (made-c : set_up_of (settings_of false x) (Some key) ≡ Ok client)
+    (made-s : set_up_of (settings_of true y) (Some key) ≡ Ok server)
     (has-c : x.cipher ≡ true) (has-s : y.cipher ≡ true)
-    (id-c : x.keyid ≡ key_id_of (some key)) (id-s : y.keyid ≡ key_id_of (some key))
+    (id-c : x.keyid ≡ key_id_of (Some key)) (id-s : y.keyid ≡ key_id_of (Some key))
     (c s : Caller) (b1 b2 : List ℕ) (w3 w4 : Way) (g : Able c s b1 b2 w3.buffer w4.buffer)
     (r3 : 12 ≤ length w3.room) (r4 : 12 ≤ length w4.room)
     (a : Addresses) (client-card server-card : List ℕ → List ℕ)

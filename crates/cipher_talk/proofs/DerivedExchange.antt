@@ -4,12 +4,10 @@
 use mathlib.Core.Path.{◌≡◌, sym, subst}
 use mathlib.Core.Bool.{true, false}
 use mathlib.Core.List.{List}
-use mathlib.Core.Option.{some}
 use Prim.Native.Nat.{ℕ, ◌+◌, ◌≤◌}
 use lib.ListN.{length}
 use Rattle.wire.proofs.ByteLaws.{Small}
 use Rattle.link_state.specs.declared.Link.{Link}
-use Rattle.link_state.specs.declared.SetUp.TheVariants.{Ready}
 use Rattle.link_state.specs.SetUp.{key_id_of, set_up_of}
 use Rattle.pair.specs.Opens.{Choices, settings_of, Caller, Able}
 use Rattle.cipher_choice.specs.Derives.{Known, Addresses, Nonces, nonces_of, client_knows, server_knows}
@@ -19,6 +17,7 @@ use Rattle.cipher_talk.specs.Exchange.{Secret, Suited, secret_of, Way, exchange_
 use Rattle.cipher_talk.proofs.Exchange.{whole-exchange}
 use Rattle.cipher_talk.proofs.Alike.{both, meet, client-is, server-is}
 use Rattle.cipher_talk.proofs.Derived.{one-secret}
+use Rattle.std.specs.Prelude.{Ok, Some}
 
 -- what is derived is fit for the cipher
 suited : (k : Known) (key b : List ℕ) → Suited (secret_of k key b)
@@ -30,10 +29,10 @@ suited k key b =
 -- two links that were set up with the same key, both with the cipher; the callers, the ways of the Handshakes, the
 -- cards, and the buffers for the derivations
 module _ (x y : Choices) (key : List ℕ) (bytes : Small key) (client server : Link)
-    (made-c : set_up_of (settings_of false x) (some key) ≡ Ready client)
-    (made-s : set_up_of (settings_of true y) (some key) ≡ Ready server)
+    (made-c : set_up_of (settings_of false x) (Some key) ≡ Ok client)
+    (made-s : set_up_of (settings_of true y) (Some key) ≡ Ok server)
     (has-c : x.cipher ≡ true) (has-s : y.cipher ≡ true)
-    (id-c : x.keyid ≡ key_id_of (some key)) (id-s : y.keyid ≡ key_id_of (some key))
+    (id-c : x.keyid ≡ key_id_of (Some key)) (id-s : y.keyid ≡ key_id_of (Some key))
     (c s : Caller) (b1 b2 : List ℕ) (w3 w4 : Way) (g : Able c s b1 b2 w3.buffer w4.buffer)
     (r3 : 12 ≤ length w3.room) (r4 : 12 ≤ length w4.room)
     (a : Addresses) (client-card server-card : List ℕ → List ℕ)

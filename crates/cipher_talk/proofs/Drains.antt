@@ -9,20 +9,22 @@ use Rattle.wire.specs.Bytes.{within}
 use Rattle.link_state.specs.declared.Link.{Link}
 use Rattle.link_state.specs.declared.Moment.{Moment}
 use Rattle.link_state.specs.Turn.{may_send}
-use Rattle.packet.specs.Allowed.{refuses}
 use Rattle.packet.specs.declared.Arrival.{Arrival}
-use Rattle.packet.specs.declared.Arrival.TheVariants.{Incomplete, Packet, Refused}
-use Rattle.link.specs.Look.{turn_refusal, look_of}
+use Rattle.packet.specs.declared.Arrival.TheVariants.{Incomplete, Packet}
+use Rattle.link.specs.Look.{check_turn, look_of}
 use Rattle.link_next.specs.Next.{closes_of, closed_of, refused_of, after_of}
-use Rattle.link.specs.Receive.{body_refusal, gives, refuse, receive_by, receive_of}
+use Rattle.link.specs.Receive.{check_body, refuse, packet_by, receive_by, receive_of}
 use Rattle.pair.proofs.StepAlike.{stays}
 use Rattle.pair_messages.specs.Hear.{side_of}
 use Rattle.cipher_talk.specs.Drain.{ahead, drain_on, theirs, drained, calls_of}
+use Rattle.std.specs.Prelude.{Err, Result, Ok, ⊤}
+use Rattle.refusal.specs.declared.Refusal.{Refusal}
+use Rattle.refusal.specs.declared.Refusal.TheVariants.{NotOurTurn}
 
 -- at its own turn a call is refused with 22, whatever the bytes
 pub own_turn : (l : Link) (s : List ℕ) (m : Moment) → l.closed ≡ false → theirs l ≡ false
-    → receive_of l s m ≡ refuse l 22
-unfolding receive_of look_of turn_refusal
+    → receive_of l s m ≡ refuse l NotOurTurn
+unfolding receive_of look_of check_turn
 own_turn l s m c e = rw (c, e)
 
 -- a link that is open stays open
@@ -34,18 +36,16 @@ still_open l s m h = go (look_of l s)
     refused true = h
     refused false = h
 
-    go : (a : Arrival) → 4 ≤ (receive_by l s m a).link.stage
-    go (Incomplete k) = h
-    go (Refused k) = refused (closes_of k)
-    go (Packet kind used at len) =
-        let r = body_refusal l kind (within s at len) m in
-        by r (refuses r)
+    go : (a : Result Arrival Refusal) → 4 ≤ (receive_by l s m a).link.stage
+    go (Ok (Incomplete k)) = h
+    go (Err k) = refused (closes_of k)
+    go (Ok (Packet kind used at len)) =
+        by (check_body l kind (within s at len) m)
       where
-        by : (r : ℕ) (b : Bool)
-            → 4 ≤ (pick b (refuse l r) (gives (after_of l kind (within s at len) m) (Packet kind used at len))
-            ).link.stage
-        by r true = refused (closes_of r)
-        by r false = rw (stays l.stage h) h
+        by : (r : Result ⊤ Refusal)
+            → 4 ≤ (packet_by l (after_of l kind (within s at len) m) (Packet kind used at len) r).link.stage
+        by (Err r) = refused (closes_of r)
+        by (Ok u) = rw (stays l.stage h) h
 
 -- OPEN LINKS: there the turn is never looked at
 pub open-drains : (n : ℕ) (l : Link) (s : List ℕ) (m : Moment) → 4 ≤ l.stage → drained n l s m ≡ calls_of n l s m
@@ -55,10 +55,10 @@ open-drains (suc n) l s m h =
     rw (le-leb 4 l.stage h)
     (go (receive_of l s m).link (still_open l s m h) (receive_of l s m).answer (λ k t j. open-drains n k t m j))
   where
-    go : (k : Link) → 4 ≤ k.stage → (a : Arrival)
+    go : (k : Link) → 4 ≤ k.stage → (a : Result Arrival Refusal)
         → ((k2 : Link) (t : List ℕ) → 4 ≤ k2.stage → drained n k2 t m ≡ calls_of n k2 t m)
         → drain_on (λ (k2 : Link) (t : List ℕ). drained n k2 t m) (side_of l.set.server) s k a
         ≡ drain_on (λ (k2 : Link) (t : List ℕ). calls_of n k2 t m) (side_of l.set.server) s k a
-    go k j (Incomplete r) ih = refl
-    go k j (Packet kind used at len) ih = ap (ahead _) (ih k _ j)
-    go k j (Refused r) ih = refl
+    go k j (Ok (Incomplete r)) ih = refl
+    go k j (Ok (Packet kind used at len)) ih = ap (ahead _) (ih k _ j)
+    go k j (Err r) ih = refl

@@ -8,7 +8,7 @@ use lib.ListN.{length}
 use lib.Dec.{lit<, lit≤}
 use Rattle.wire.specs.Choice.{pick}
 use Rattle.aes.specs.Aes.{keys}
-use Rattle.aes.specs.Cbc.{encipher_answer}
+use Rattle.aes.specs.Cbc.{encipher_vector}
 use Rattle.link_state.specs.declared.Link.{Link}
 use Rattle.link_state.specs.declared.Settings.{Settings}
 use Rattle.link_state.specs.declared.Moment.{Moment}
@@ -18,7 +18,7 @@ use Rattle.packet.specs.Sum.{castagnoli_of}
 use Rattle.packet_padding.specs.Padding.{padded_of, pads_of, tail_of, words_allowed, fours_of, phase_after}
 use Rattle.packet_out.specs.Size.{size_of}
 use Rattle.packet_out.specs.Packet.{packet_of}
-use Rattle.link.specs.Look.{turn_refusal}
+use Rattle.link.specs.Look.{check_turn}
 use Rattle.link_next.specs.KeepAlive.{awaits_after, owes_after, owed_after}
 use Rattle.link_next.specs.Next.{agreed_after, version_after, ciphered_after, after_of}
 use Rattle.handshake_out.specs.Handshake.{flags_of, handshake_body}
@@ -34,6 +34,7 @@ use Rattle.cipher_talk.specs.Exchange.{greet_in, Exchanged, greeted, exchange_of
 use Rattle.cipher_talk.proofs.Carried.{arrived}
 use Rattle.cipher_talk.proofs.Turns.{all-turns-heard}
 use Rattle.cipher_talk.proofs.Greets.{hand-fine, Greeting, vector-sized, sent_is, got-is}
+use Rattle.std.specs.Prelude.{Ok}
 
 module _ (x y : Choices) (meet : Meet x y) (both : both_of x y ≡ true) (c s : Caller) (b1 b2 : List ℕ) (k : Secret)
     (w3 w4 : Way) (g : Able c s b1 b2 w3.buffer w4.buffer) (suited : Suited k)
@@ -112,7 +113,7 @@ module _ (x y : Choices) (meet : Meet x y) (both : both_of x y ≡ true) (c s : 
   server-turn = refl
 
   awaits-c : Awaits s2 c2
-  unfolding castagnoli_of turn_refusal may_send pads_of padded_of
+  unfolding castagnoli_of check_turn may_send pads_of padded_of
   awaits-c = record { number = refl; checksum = refl; stage = refl; profile = sym meet.same_profile; turn = refl }
 
   greeting-c : Greeting c2 s2 c.pid s.pid w3.buffer c3 c4 s3
@@ -149,12 +150,12 @@ module _ (x y : Choices) (meet : Meet x y) (both : both_of x y ≡ true) (c s : 
   unfolding after_of agreed_after version_after ciphered_after stage_after awaits_after owes_after owed_after flags_of
   client-takes m = rw (hand-flag agreed s.pid c.pid)
 
-  client-waits : (1 ≤ words_allowed c5) × (turn_refusal c5 ≡ 0)
-  unfolding words_allowed padded_of turn_refusal may_send
+  client-waits : (1 ≤ words_allowed c5) × (check_turn c5 ≡ Ok tt)
+  unfolding words_allowed padded_of check_turn may_send
   client-waits = (rw (padded x.padded) (lit≤ tt), refl)
 
   awaits-s : Awaits c4 s3
-  unfolding castagnoli_of turn_refusal may_send pads_of padded_of
+  unfolding castagnoli_of check_turn may_send pads_of padded_of
   awaits-s =
       record { number = refl; checksum = off agreed; stage = refl; profile = meet.same_profile; turn = refl }
     where
@@ -183,10 +184,10 @@ module _ (x y : Choices) (meet : Meet x y) (both : both_of x y ≡ true) (c s : 
   -- ---- the ends
 
   abbrev v3 : List ℕ
-  v3 = (encipher_answer (keys k.key1) k.vector1 (packet_of c2 0x7682eef5 hand_c ++ fours_of 1)).vector
+  v3 = (encipher_vector (keys k.key1) k.vector1 (packet_of c2 0x7682eef5 hand_c ++ fours_of 1))
 
   abbrev v4 : List ℕ
-  v4 = (encipher_answer (keys k.key2) k.vector2 (packet_of s3 0x7682eef5 hand_s ++ fours_of 1)).vector
+  v4 = (encipher_vector (keys k.key2) k.vector2 (packet_of s3 0x7682eef5 hand_s ++ fours_of 1))
 
   abbrev a2 : End
   a2 = client_end c2 k
@@ -241,7 +242,7 @@ module _ (x y : Choices) (meet : Meet x y) (both : both_of x y ≡ true) (c s : 
   same-agreed false false = refl
 
   there : Awaits s5 c5
-  unfolding castagnoli_of turn_refusal may_send pads_of padded_of
+  unfolding castagnoli_of check_turn may_send pads_of padded_of
   there =
       record {
         number = refl;
@@ -252,7 +253,7 @@ module _ (x y : Choices) (meet : Meet x y) (both : both_of x y ≡ true) (c s : 
       }
 
   back : Awaits c5 s5
-  unfolding castagnoli_of turn_refusal may_send pads_of padded_of
+  unfolding castagnoli_of check_turn may_send pads_of padded_of
   back =
       record {
         number = refl;

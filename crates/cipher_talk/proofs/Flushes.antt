@@ -12,7 +12,6 @@ use Rattle.wire.specs.Choice.{pick}
 use Rattle.cipher_laws.specs.Sizes.{Whole}
 use Rattle.link_state.specs.declared.Link.{Link}
 use Rattle.packet_padding.specs.Padding.{padded_of, pads_of, fours_of, phase_after}
-use Rattle.packet_out.specs.declared.Sent.TheVariants.{Written}
 use Rattle.packet_out.proofs.PacketLaws.{take-front}
 use Rattle.send_rules.specs.declared.Step.{Step}
 use Rattle.flush.specs.Flush.{begun_of, words_due, flushed_of, flush_step, flush_buffer}
@@ -21,6 +20,7 @@ use Rattle.pair.specs.Awaits.{Awaits}
 use Rattle.pair.proofs.Words.{length-fours}
 use Rattle.link_padding.proofs.Flushed.{flush-keeps}
 use Rattle.cipher_talk.specs.Ends.{Wrote, front, flushed}
+use Rattle.std.specs.Prelude.{Ok}
 
 -- what a flush leaves as it was
 pub record Kept (l l2 : Link) : Type 0 where
@@ -34,7 +34,7 @@ pub record Kept (l l2 : Link) : Type 0 where
 
 -- with room for three words
 module _ (l : Link) (b : List ℕ) (not_closed : l.closed ≡ false) (room : 12 ≤ length b) where
-  pub step : flush_step l (length b) ≡ record { link = flushed_of l (words_due l * 4); answer = Written (words_due l * 4) }
+  pub step : flush_step l (length b) ≡ record { link = flushed_of l (words_due l * 4); answer = Ok (words_due l * 4) }
   step = sym (written_step l b not_closed refl (omega (arith, due-small l)) refl refl).0
 
   words_are : front (flush_step l (length b)).answer (flush_buffer l b) ≡ fours_of (words_due l)
@@ -48,7 +48,7 @@ module _ (l : Link) (b : List ℕ) (not_closed : l.closed ≡ false) (room : 12 
   pub kept : Kept l (flush_step l (length b)).link
   unfolding flushed_of
   kept =
-      let a : (flush_step l (length b)).answer ≡ Written (words_due l * 4) = ap (λ (x : Step). x.answer) step in
+      let a : (flush_step l (length b)).answer ≡ Ok (words_due l * 4) = ap (λ (x : Step). x.answer) step in
       let e : (flush_step l (length b)).link ≡ flushed_of l (words_due l * 4) = ap (λ (x : Step). x.link) step in
       record {
         stage = ap (λ (x : Link). x.stage) e;

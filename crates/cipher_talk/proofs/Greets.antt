@@ -7,11 +7,11 @@ use mathlib.Core.List.{List, [], ◌∷◌, ◌++◌}
 use Prim.Native.Nat.{ℕ, ◌+◌, ◌*◌, ◌≤◌, ◌<◌, ◌^◌}
 use lib.ListN.{length, length-append}
 use lib.Dec.{ltb, lit<}
+use Rattle.std.specs.Result.{IsOk}
 use Rattle.wire.specs.Choice.{pick}
 use Rattle.aes.specs.Aes.{keys}
 use Rattle.aes.specs.Back.{back_keys}
-use Rattle.aes.specs.Cbc.{encipher_answer, encipher_buffer}
-use Rattle.aes.specs.declared.Answer.TheVariants.{Done}
+use Rattle.aes.specs.Cbc.{encipher_answer, encipher_vector, encipher_buffer}
 use Rattle.cipher_laws.specs.Sizes.{Bytes, Sized, Whole}
 use Rattle.cipher_laws.proofs.Schedule.{keys_of}
 use Rattle.cipher_laws.proofs.Calls.{done-forth, bytes-forth}
@@ -19,14 +19,12 @@ use Rattle.link_state.specs.declared.Link.{Link}
 use Rattle.link_state.specs.declared.Moment.{Moment}
 use Rattle.packet.specs.Allowed.{allowed_of}
 use Rattle.packet_padding.specs.Padding.{fours_of}
-use Rattle.packet_head.specs.Head.{length_refusal}
+use Rattle.packet_head.specs.Head.{check_length}
 use Rattle.packet_out.specs.Size.{size_of}
 use Rattle.packet_out.specs.Packet.{packet_of}
-use Rattle.packet_out.specs.declared.Sent.{Sent}
-use Rattle.packet_out.specs.declared.Sent.TheVariants.{Written, Refused}
 use Rattle.packet_out.proofs.PacketLaws.{length-packet, take-front}
 use Rattle.link_next.specs.Next.{after_of}
-use Rattle.link.specs.Receive.{body_refusal}
+use Rattle.link.specs.Receive.{check_body}
 use Rattle.handshake_in.specs.declared.NetPid.{NetPid}
 use Rattle.send_rules.specs.declared.Step.{Step}
 use Rattle.send_rules.specs.Control.{control_answer, step_by, buffer_by, control_step, control_buffer}
@@ -46,6 +44,9 @@ use Rattle.cipher_talk.proofs.Low.{low-bytes, small-packet, small-fours}
 use Rattle.cipher_talk.proofs.Flushes.{step, flushed-is}
 use Rattle.cipher_talk.proofs.Carried.{arrived, none-refused, carries}
 use Rattle.cipher_talk.proofs.Turns.{same_bytes}
+use Rattle.std.specs.Prelude.{Err, Result, Ok, ⊤}
+use Rattle.refusal.specs.declared.Refusal.{Refusal}
+use Rattle.refusal.specs.declared.Refusal.TheVariants.{LengthInOpening}
 
 -- ---- a Handshake is one that the other side takes
 
@@ -53,11 +54,11 @@ module _ (k l : Link) (p q : NetPid) where
   abbrev hand : List ℕ
   hand = handshake_body (flags_of l) p q
 
-  long-hand : length_refusal k (length hand + 16) ≡ 0
-  unfolding length_refusal
+  long-hand : check_length k (length hand + 16) ≡ Ok tt
+  unfolding check_length
   long-hand = rw (length-handshake (flags_of l) p q) (go (ltb k.stage 4))
     where
-      go : (b : Bool) → ◌≡◌ {A = ℕ} (pick (b && false) 3 0) 0
+      go : (b : Bool) → ◌≡◌ {A = Result ⊤ Refusal} (pick (b && false) (Err LengthInOpening) (Ok tt)) (Ok tt)
       go true = refl
       go false = refl
 
@@ -69,7 +70,7 @@ module _ (k l : Link) (p q : NetPid) where
   pub hand-fine : Awaits k l → 2 ≤ k.stage → k.stage < 4 → l.sends < 2 ^ 32
       → (not k.set.server && (not k.set.allows && pick l.set.server l.crc32c l.set.allows)) ≡ false
       → Fine k l 0x7682eef5 hand
-  unfolding body_refusal flags_of
+  unfolding check_body flags_of
   hand-fine a g h n e =
       record {
         awaited = a;
@@ -84,7 +85,7 @@ module _ (k l : Link) (p q : NetPid) where
 
 -- l sends its Handshake, l2, and a word behind it, l3; k takes it and is k2, with the word left
 pub record Greeting (l k : Link) (p q : NetPid) (b : List ℕ) (l2 l3 k2 : Link) : Type 0 where
-  pub sent : handshake_step l p q (length b) ≡ record { link = l2; answer = Written 44 }
+  pub sent : handshake_step l p q (length b) ≡ record { link = l2; answer = Ok 44 }
   pub space : 44 ≤ length b
   pub size : size_of l 28 ≡ 44
   pub due : words_due l2 ≡ 1
@@ -113,18 +114,18 @@ module _ (a b : End) (p q : NetPid) (w : Way) {key v : List ℕ} {l2 l3 k2 : Lin
       length-packet a.link 0x7682eef5 body
       ∙ (ap (size_of a.link) (length-handshake (flags_of a.link) p q) ∙ g.size)
 
-  answered : (x : Sent) → (step_by a.link 0x7682eef5 0 x).answer ≡ x
-  answered (Written n) = refl
-  answered (Refused n) = refl
+  answered : (x : Result ℕ Refusal) → (step_by a.link 0x7682eef5 0 x).answer ≡ x
+  answered (Ok n) = refl
+  answered (Err n) = refl
 
   bytes-are : front (handshake_step a.link p q (length w.buffer)).answer
       (handshake_buffer a.link p q w.buffer) ≡ packet
   unfolding handshake_step handshake_buffer control_step control_buffer
   bytes-are =
-      let x : Sent = control_answer a.link 0x7682eef5 false (length body) (length w.buffer) in
-      let e : x ≡ Written 44 = sym (answered x) ∙ ap (λ (t : Step). t.answer) g.sent in
-      ap (λ (y : Sent). front y (buffer_by a.link 0x7682eef5 body w.buffer x)) (answered x)
-      ∙ (ap (λ (y : Sent). front y (buffer_by a.link 0x7682eef5 body w.buffer y)) e
+      let x : Result ℕ Refusal = control_answer a.link 0x7682eef5 false (length body) (length w.buffer) in
+      let e : x ≡ Ok 44 = sym (answered x) ∙ ap (λ (t : Step). t.answer) g.sent in
+      ap (λ (y : Result ℕ Refusal). front y (buffer_by a.link 0x7682eef5 body w.buffer x)) (answered x)
+      ∙ (ap (λ (y : Result ℕ Refusal). front y (buffer_by a.link 0x7682eef5 body w.buffer y)) e
       ∙ take-front w.buffer packet 44 long-packet g.space)
 
   wrote-is : greets a.link p q w.buffer ≡ record { link = l2; bytes = packet }
@@ -148,9 +149,9 @@ module _ (a b : End) (p q : NetPid) (w : Way) {key v : List ℕ} {l2 l3 k2 : Lin
       (small-packet a.link 0x7682eef5 body (small-handshake (flags_of a.link) p q)) (small-fours 1))
 
   abbrev vector : List ℕ
-  vector = (encipher_answer (keys key) v clear).vector
+  vector = (encipher_vector (keys key) v clear)
 
-  pub vector-sized : Sized 16 (encipher_answer (keys key) v clear).vector
+  pub vector-sized : Sized 16 (encipher_vector (keys key) v clear)
   vector-sized = (bytes-forth clear (keys_of hk) hv low).1
 
   flush-is : (flush_step l2 (length w.room)).link ≡ l3
@@ -161,21 +162,21 @@ module _ (a b : End) (p q : NetPid) (w : Way) {key v : List ℕ} {l2 l3 k2 : Lin
   flushed-all : flushed (greets a.link p q w.buffer) w.room ≡ clear
   flushed-all = ap (λ (x : Wrote). flushed x w.room) wrote-is ∙ clear-is
 
-  vector_is : (encipher_answer a.outward.keys a.outward.vector
-      (flushed (greets a.link p q w.buffer) w.room)).vector ≡ vector
-  vector_is = rw (out_keys, out-vector) (ap (λ (x : List ℕ). (encipher_answer (keys key) v x).vector) flushed-all)
+  vector_is : (encipher_vector a.outward.keys a.outward.vector
+      (flushed (greets a.link p q w.buffer) w.room)) ≡ vector
+  vector_is = rw (out_keys, out-vector) (ap (λ (x : List ℕ). (encipher_vector (keys key) v x)) flushed-all)
 
   -- the sender after it
   pub sent_is : (greet_out a p q w).end
       ≡ record {
         link = l3;
-        outward = record { keys = a.outward.keys; vector = (encipher_answer (keys key) v clear).vector };
+        outward = record { keys = a.outward.keys; vector = (encipher_vector (keys key) v clear) };
         inward = a.inward;
         held = a.held;
       }
   sent_is =
-      let x : List ℕ = (encipher_answer a.outward.keys a.outward.vector
-      (flushed (greets a.link p q w.buffer) w.room)).vector in
+      let x : List ℕ = (encipher_vector a.outward.keys a.outward.vector
+      (flushed (greets a.link p q w.buffer) w.room)) in
       ap (λ (y : Link). record {
         link = y;
         outward = record { keys = a.outward.keys; vector = x };
@@ -194,8 +195,8 @@ module _ (a b : End) (p q : NetPid) (w : Way) {key v : List ℕ} {l2 l3 k2 : Lin
 
   -- neither enciphering it nor deciphering any piece of it is refused with 37
   pub hand-never-37 :
-      ((encipher_answer a.outward.keys a.outward.vector
-      (flushed (greets a.link p q w.buffer) w.room)).answer ≡ Done)
+      (IsOk (encipher_answer a.outward.keys a.outward.vector
+      (flushed (greets a.link p q w.buffer) w.room)))
       × AllDone b.inward.vector (cut_by w.cuts w.last (greet_out a p q w).bytes)
   hand-never-37 = (
     rw flushed-all (done-forth a.outward.keys a.outward.vector clear whole),
@@ -211,7 +212,7 @@ module _ (a b : End) (p q : NetPid) (w : Way) {key v : List ℕ} {l2 l3 k2 : Lin
   -- and the other end
   pub got-is : greet_in b (greet_out a p q w) w
       ≡ arrived b (record { link = k2; got = control 0x7682eef5 body ∷ []; left = fours_of 1 })
-      (encipher_answer (keys key) v clear).vector
+      (encipher_vector (keys key) v clear)
   got-is =
       ap (λ (x : List ℕ). all_in b (cut_by w.cuts w.last x)) ciphered-is
       ∙ carries b clear hk hv in_keys in-vector low whole w.cuts w.last comes

@@ -3,29 +3,26 @@
 use mathlib.Core.Path.{◌≡◌, ap, sym, ◌∙◌}
 use mathlib.Core.Bool.{Bool, true, false}
 use mathlib.Core.List.{List}
-use mathlib.Core.Option.{some}
 use Prim.Native.Nat.{ℕ, ◌+◌, ◌≤◌}
 use lib.ListN.{length}
 use Rattle.wire.proofs.ByteLaws.{Small}
 use Rattle.link_state.specs.declared.Link.{Link}
-use Rattle.link_state.specs.declared.SetUp.TheVariants.{Ready}
 use Rattle.link_state.specs.SetUp.{key_id_of, set_up_of}
-use Rattle.key_message.specs.declared.InitMessage.TheVariants.{Size}
 use Rattle.link_keys.specs.Keys.{with_keys}
-use Rattle.link_keys.specs.declared.Derived.{Derived}
 use Rattle.pair.specs.Opens.{Choices, settings_of, Caller, Able}
-use Rattle.cipher_choice.specs.Derives.{Known, derived_by, Addresses, Nonces, nonces_of, client_knows, server_knows}
+use Rattle.cipher_choice.specs.Derives.{Known, derived_by, answer_of, Addresses, Nonces, nonces_of, client_knows, server_knows}
 use Rattle.cipher_choice.proofs.Sized.{with-room}
 use Rattle.cipher_talk.specs.Exchange.{Way}
 use Rattle.cipher_talk.proofs.Alike.{short, alike, version-2}
+use Rattle.std.specs.Prelude.{Ok, Some}
 
 -- two links that were set up with the same key, both with the cipher; the callers, the ways of the Handshakes, the
 -- cards, and the buffers for the derivations
 module _ (x y : Choices) (key : List ℕ) (bytes : Small key) (client server : Link)
-    (made-c : set_up_of (settings_of false x) (some key) ≡ Ready client)
-    (made-s : set_up_of (settings_of true y) (some key) ≡ Ready server)
+    (made-c : set_up_of (settings_of false x) (Some key) ≡ Ok client)
+    (made-s : set_up_of (settings_of true y) (Some key) ≡ Ok server)
     (has-c : x.cipher ≡ true) (has-s : y.cipher ≡ true)
-    (id-c : x.keyid ≡ key_id_of (some key)) (id-s : y.keyid ≡ key_id_of (some key))
+    (id-c : x.keyid ≡ key_id_of (Some key)) (id-s : y.keyid ≡ key_id_of (Some key))
     (c s : Caller) (b1 b2 : List ℕ) (w3 w4 : Way) (g : Able c s b1 b2 w3.buffer w4.buffer)
     (r3 : 12 ≤ length w3.room) (r4 : 12 ≤ length w4.room)
     (a : Addresses) (client-card server-card : List ℕ → List ℕ)
@@ -43,16 +40,16 @@ module _ (x y : Choices) (key : List ℕ) (bytes : Small key) (client server : L
 
   -- NO DERIVATION IS REFUSED, for either direction at either end
   pub derives : (from_server : Bool)
-      → ((derived_by client-known from_server key dc).answer ≡ Size (118 + length key))
-      × ((derived_by server-known from_server key ds).answer ≡ Size (118 + length key))
+      → (answer_of (derived_by client-known from_server key dc) ≡ Ok (118 + length key))
+      × (answer_of (derived_by server-known from_server key ds) ≡ Ok (118 + length key))
   unfolding with_keys
   derives from_server = (
-    ap (λ (d : Derived). d.answer)
+    ap answer_of
         (with-room client-known from_server key dc
         (version-2 x y key bytes client server made-c made-s has-c has-s id-c id-s c s b1 b2 w3 w4 g a
         client-card server-card agreed)
         (short x y key bytes client server made-c made-s has-c has-s id-c id-s) room-c),
-    ap (λ (d : Derived). d.answer)
+    ap answer_of
         (with-room server-known from_server key ds
         (ap (λ (k : Known). k.version)
         (sym

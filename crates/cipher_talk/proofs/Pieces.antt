@@ -17,7 +17,7 @@ use Rattle.packet.specs.declared.Arrival.TheVariants.{Packet}
 use Rattle.packet_out.specs.Size.{size_of}
 use Rattle.packet_out.specs.Packet.{packet_of}
 use Rattle.packet_out.proofs.PacketLaws.{length-packet}
-use Rattle.link.specs.Look.{turn_refusal}
+use Rattle.link.specs.Look.{check_turn}
 use Rattle.link_next.specs.Next.{after_of}
 use Rattle.link.specs.Receive.{gives, receive_of}
 use Rattle.pair.proofs.Words.{length-fours}
@@ -27,24 +27,27 @@ use Rattle.cipher_talk.specs.Drain.{Got, got_of, Drained, ahead, drain_by, their
 use Rattle.cipher_talk.specs.Drain.{drained, all_of, Piece, joined, fed}
 use Rattle.cipher_talk.specs.Comes.{Fine, Comes, words, ours, takes}
 use Rattle.cipher_talk.proofs.Prefix.{Waits, waiting, waits-words, waits-prefix}
+use Rattle.std.specs.Prelude.{Ok, Result, Err, ⊤}
+use Rattle.refusal.specs.declared.Refusal.TheVariants.{LinkClosed, NotOurTurn}
+use Rattle.refusal.specs.declared.Refusal.{Refusal}
 
 -- ---- one call
 
 -- where a receive call is not out of turn, the other side may send
-their-turn : (k : Link) → turn_refusal k ≡ 0 → theirs k ≡ true
-unfolding turn_refusal
+their-turn : (k : Link) → check_turn k ≡ Ok tt → theirs k ≡ true
+unfolding check_turn
 their-turn k e = go k.closed (theirs k) e
   where
-    go : (c b : Bool) → ◌≡◌ {A = ℕ} (pick c 20 (pick (not b) 22 0)) 0 → b ≡ true
+    go : (c b : Bool) → ◌≡◌ {A = Result ⊤ Refusal} (pick c (Err LinkClosed) (pick (not b) (Err NotOurTurn) (Ok tt))) (Ok tt) → b ≡ true
     go c true h = refl
-    go true false h = absurd (omega arith)
-    go false false h = absurd (omega arith)
+    go true false h = cc
+    go false false h = cc
 
 -- nothing is taken, and s is left
 abbrev nothing : Link → List ℕ → Drained
 nothing k s = record { link = k; got = []; left = s }
 
-still : (k : Link) (s : List ℕ) (m : Moment) → turn_refusal k ≡ 0 → Waits k s → (n : ℕ) → drained n k s m ≡ nothing k s
+still : (k : Link) (s : List ℕ) (m : Moment) → check_turn k ≡ Ok tt → Waits k s → (n : ℕ) → drained n k s m ≡ nothing k s
 unfolding drained
 still k s m turn h zero = refl
 still k s m turn h (suc n) = rw (their-turn k turn, waiting k s m turn h)
@@ -85,7 +88,7 @@ module _ {k l : Link} {kind : ℕ} {body : List ℕ} (f : Fine k l kind body) (w
       let k2 = after_of k kind body m in
       let used : ℕ = w * 4 + size_of l (length body) in
       let assoc : chunk ++ rest ≡ s = append_assoc (fours_of w) (packet_of l kind body) rest in
-      let r : receive_of k s m ≡ gives k2 (Packet kind used (w * 4 + 12) (length body)) =
+      let r : receive_of k s m ≡ gives k2 (Ok (Packet kind used (w * 4 + 12) (length body))) =
       received-behind l kind body rest k f.awaited f.long f.allowed f.number f.short f.kind_fits
       f.bytes w h m (f.taken m) in
       let d : drop used s ≡ rest = ap (drop used) (sym assoc) ∙ drop_at chunk rest used long-chunk in

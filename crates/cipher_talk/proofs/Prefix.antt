@@ -14,24 +14,25 @@ use Rattle.link_state.specs.declared.Link.{Link}
 use Rattle.link_state.specs.declared.Moment.{Moment}
 use Rattle.packet_padding.specs.Padding.{tail_of, words_allowed, fours_of}
 use Rattle.packet.specs.declared.Arrival.TheVariants.{Incomplete}
-use Rattle.packet_head.specs.Head.{length_refusal, head_refusal}
+use Rattle.packet_head.specs.Head.{check_length, check_head}
 use Rattle.packet_in.specs.Frame.{rows_of, frame_of}
 use Rattle.packet_out.specs.Size.{size_of}
 use Rattle.packet_out.specs.Packet.{packet_of}
-use Rattle.link.specs.Look.{turn_refusal, look_of}
+use Rattle.link.specs.Look.{check_turn, look_of}
 use Rattle.link.specs.Receive.{gives, receive_of}
 use Rattle.pair.proofs.Words.{length-fours, words-wait, skipped}
 use Rattle.pair.proofs.RoundTrip.{reads-length, reads-number, reads-kind, long}
 use Rattle.cipher_talk.specs.Comes.{Fine}
+use Rattle.std.specs.Prelude.{Ok}
 
 -- s is not whole: a receive call of k answers Incomplete
 pub record Waits (k : Link) (s : List ℕ) : Type 0 where
   pub lacks : ℕ
-  pub is : frame_of k s ≡ Incomplete lacks
+  pub is : frame_of k s ≡ Ok (Incomplete lacks)
 
 -- and k stays, at any clock
-pub waiting : (k : Link) (s : List ℕ) (m : Moment) → turn_refusal k ≡ 0 → (h : Waits k s)
-    → receive_of k s m ≡ gives k (Incomplete h.lacks)
+pub waiting : (k : Link) (s : List ℕ) (m : Moment) → check_turn k ≡ Ok tt → (h : Waits k s)
+    → receive_of k s m ≡ gives k (Ok (Incomplete h.lacks))
 unfolding receive_of look_of
 waiting k s m turn h = simp (turn, h.is)
 
@@ -91,16 +92,16 @@ waits-words k w n t h g =
 -- ---- a packet
 
 -- its length is there, its number and type are not
-rows-12 : (k : Link) (p : List ℕ) (size before : ℕ) → le (part p 0 4) ≡ size → length_refusal k size ≡ 0
-    → 4 ≤ length p → length p < 12 → rows_of k p before ≡ Incomplete (12 - length p)
+rows-12 : (k : Link) (p : List ℕ) (size before : ℕ) → le (part p 0 4) ≡ size → check_length k size ≡ Ok tt
+    → 4 ≤ length p → length p < 12 → rows_of k p before ≡ Ok (Incomplete (12 - length p))
 unfolding rows_of
 rows-12 k p size before el e1 h g = simp (el, e1, le-ltb (length p) 4 h, lt-ltb (length p) 12 g)
 
 -- they are, and all of it is not
-rows-rest : (k : Link) (p : List ℕ) (size number kind before : ℕ) → le (part p 0 4) ≡ size → length_refusal k size ≡ 0
-    → le (part p 4 4) ≡ number → le (part p 8 4) ≡ kind → head_refusal k number kind ≡ 0
+rows-rest : (k : Link) (p : List ℕ) (size number kind before : ℕ) → le (part p 0 4) ≡ size → check_length k size ≡ Ok tt
+    → le (part p 4 4) ≡ number → le (part p 8 4) ≡ kind → check_head k number kind ≡ Ok tt
     → 12 ≤ length p → length p < size + tail_of k size
-    → rows_of k p before ≡ Incomplete (size + tail_of k size - length p)
+    → rows_of k p before ≡ Ok (Incomplete (size + tail_of k size - length p))
 unfolding rows_of
 rows-rest k p size number kind before el e1 en ek e2 h g =
     let h4 : ltb (length p) 4 ≡ false = le-ltb (length p) 4 (omega arith) in
@@ -120,8 +121,8 @@ module _ {k l : Link} {kind : ℕ} {body : List ℕ} (f : Fine k l kind body) (r
   unfolding size_of
   long-enough = long l kind body rest
 
-  head : head_refusal k l.sends kind ≡ 0
-  unfolding head_refusal
+  head : check_head k l.sends kind ≡ Ok tt
+  unfolding check_head
   head = simp (f.awaited.number, eq-eqb l.sends l.sends refl, f.allowed)
 
   same-tail : (n : ℕ) → tail_of k n ≡ tail_of l n

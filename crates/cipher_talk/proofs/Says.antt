@@ -16,8 +16,6 @@ use Rattle.packet_padding.specs.Padding.{padded_of, pads_of, words_allowed, four
 use Rattle.packet_padding.proofs.PaddingLaws.{tail-whole}
 use Rattle.packet_out.specs.Size.{size_of}
 use Rattle.packet_out.specs.Packet.{packet_of}
-use Rattle.packet_out.specs.declared.Sent.{Sent}
-use Rattle.packet_out.specs.declared.Sent.TheVariants.{Written, Refused}
 use Rattle.packet_out.proofs.PacketLaws.{length-packet}
 use Rattle.link_next.specs.Next.{ciphered_after, after_of}
 use Rattle.send_rules.specs.Sent.{sent_of}
@@ -40,6 +38,8 @@ use Rattle.cipher_talk.specs.Drain.{Got, message, got_of}
 use Rattle.cipher_talk.specs.Comes.{Fine, Comes, words, takes}
 use Rattle.cipher_talk.specs.Ends.{Said, front, answer_to, sender, says, meant_by, meant, Fit, AllFit}
 use Rattle.cipher_talk.proofs.Low.{small-packet, fours-add}
+use Rattle.std.specs.Prelude.{Err, Result, Ok}
+use Rattle.refusal.specs.declared.Refusal.{Refusal}
 
 -- two open, ciphered links, of which k waits for l's next packet
 pub record Speaks (l k : Link) : Type 0 where
@@ -104,7 +104,7 @@ module _ (l : Link) (over : 4 ≤ l.stage) (ciphered : l.ciphered ≡ true) wher
 
 -- ---- one message
 
-module _ (l k : Link) (s : Said) (n : ℕ) (e : answer_to l s ≡ Written n) where
+module _ (l k : Link) (s : Said) (n : ℕ) (e : answer_to l s ≡ Ok n) where
   abbrev kind : ℕ
   kind = kind_of s.message
 
@@ -119,13 +119,13 @@ module _ (l k : Link) (s : Said) (n : ℕ) (e : answer_to l s ≡ Written n) whe
 
   sender-is : sender l s ≡ sent_of l kind 0 n
   unfolding message_step
-  sender-is = ap (λ (x : Sent). (step_by l kind 0 x).link) e
+  sender-is = ap (λ (x : Result ℕ Refusal). (step_by l kind 0 x).link) e
 
   front-is : front (answer_to l s) (message_buffer l s.message s.payload s.buffer) ≡ packet_of l kind body
   front-is =
       let p = packet_of l kind body in
       let b = message_buffer l s.message s.payload s.buffer in
-      ap (λ (x : Sent). front x b) e
+      ap (λ (x : Result ℕ Refusal). front x b) e
       ∙ (ap (take n) (whole l k s.message s.payload s.buffer n e)
       ∙ take_at p (drop (length p) s.buffer) n (omega (arith, length-packet l kind body, known.size)))
 
@@ -137,11 +137,11 @@ module _ (l k : Link) (s : Said) (n : ℕ) (e : answer_to l s ≡ Written n) whe
       let r = message-read l.set.server s.message s.payload known.way known.some known.plain
       known.short f.fields in
       let side : Side = side_of k.set.server in
-      let m : Message = meaning_of s.message s.payload in
+      let m : Result Message Refusal = meaning_of s.message s.payload in
       let a : read_message side kind body ≡ m = ap (λ (x : Bool). read_message (side_of x) kind body) other ∙ r.0 in
       ap (meant_by s) e
       ∙ (ap (λ (t : List ℕ). message m t ∷ []) (sym r.1)
-      ∙ (ap (λ (x : Message). message x (part_of body x) ∷ []) (sym a)
+      ∙ (ap (λ (x : Result Message Refusal). message x (part_of body x) ∷ []) (sym a)
       ∙ sym (simp (plain.nonce, plain.handshake, plain.ping, plain.pong))))
 
   fine : Speaks l k → Fit s → Fine k l kind body
@@ -182,7 +182,7 @@ module _ (l k : Link) (s : Said) (n : ℕ) (e : answer_to l s ≡ Written n) whe
 
 -- what says and means the first comes to, by the answer
 module _ (l k : Link) (s : Said) (ss : List Said) where
-  module _ (n : ℕ) (e : answer_to l s ≡ Written n) where
+  module _ (n : ℕ) (e : answer_to l s ≡ Ok n) where
     abbrev next : Link
     next = sent_of l (kind_of s.message) 0 n
 
@@ -209,16 +209,16 @@ module _ (l k : Link) (s : Said) (ss : List Said) where
         ∙ ap (λ (x : Link). g ∷ meant x ss) (sender-is l k s n e)
 
   -- refused: as if it had not been said
-  module _ (r : ℕ) (e : answer_to l s ≡ Refused r) where
+  module _ (r : Refusal) (e : answer_to l s ≡ Err r) where
     sender-same : sender l s ≡ l
     unfolding message_step
-    sender-same = ap (λ (x : Sent). (step_by l (kind_of s.message) 0 x).link) e
+    sender-same = ap (λ (x : Result ℕ Refusal). (step_by l (kind_of s.message) 0 x).link) e
 
     bytes_same : (says l (s ∷ ss)).bytes ≡ (says l ss).bytes
     unfolding says
     bytes_same =
         let b = message_buffer l s.message s.payload s.buffer in
-        ap (λ (x : Sent). front x b ++ (says (sender l s) ss).bytes) e
+        ap (λ (x : Result ℕ Refusal). front x b ++ (says (sender l s) ss).bytes) e
         ∙ ap (λ (x : Link). (says x ss).bytes) sender-same
 
     link-same : (says l (s ∷ ss)).link ≡ (says l ss).link
@@ -227,7 +227,7 @@ module _ (l k : Link) (s : Said) (ss : List Said) where
 
     meant-same : meant l (s ∷ ss) ≡ meant l ss
     unfolding meant
-    meant-same = ap (λ (x : Sent). meant_by s x ++ meant (sender l s) ss) e ∙ ap (λ (x : Link). meant x ss) sender-same
+    meant-same = ap (λ (x : Result ℕ Refusal). meant_by s x ++ meant (sender l s) ss) e ∙ ap (λ (x : Link). meant x ss) sender-same
 
 -- ---- all of them: their sizes
 
@@ -257,9 +257,9 @@ sizes [] l o c h f = none l h
 sizes (s ∷ ss) l o c h f =
     go (answer_to l s) refl (λ (l2 : Link). λ o2 c2 h2. sizes ss l2 o2 c2 h2 f.1)
   where
-    go : (x : Sent) → answer_to l s ≡ x
+    go : (x : Result ℕ Refusal) → answer_to l s ≡ x
         → ((l2 : Link) → 4 ≤ l2.stage → l2.ciphered ≡ true → l2.phase < 4 → Size l2 ss) → Size l (s ∷ ss)
-    go (Written n) e ih =
+    go (Ok n) e ih =
         let kind = kind_of s.message in
         let body = body_of s.message s.payload in
         let l2 = sent_of l kind 0 n in
@@ -276,7 +276,7 @@ sizes (s ∷ ss) l o c h f =
           small = rw b (small-append (packet_of l kind body) (says l2 ss).bytes
               (small-packet l kind body (small-body s.message s.payload f.0.bytes)) i.small);
         }
-    go (Refused r) e ih =
+    go (Err r) e ih =
         let i = ih l o c h in
         let b = bytes_same l l s ss r e in
         record {
@@ -310,7 +310,7 @@ nothing_said : (l : Link) → (says l []).bytes ≡ []
 unfolding says
 nothing_said l = refl
 
-run-takes : (l k : Link) (s : Said) (ss : List Said) (n : ℕ) → answer_to l s ≡ Written n → Speaks l k → Fit s
+run-takes : (l k : Link) (s : Said) (ss : List Said) (n : ℕ) → answer_to l s ≡ Ok n → Speaks l k → Fit s
     → (m : Moment) (w e : ℕ) → w ≤ 3
     → Run (sent_of l (kind_of s.message) 0 n)
     (after_of k (kind_of s.message) (body_of s.message s.payload) m) ss 0 e
@@ -333,7 +333,7 @@ run-takes l k s ss n q j f m w e hw r =
       along = rw (link_on l k s ss n q) (along-more (steps l k s n q j m) r.along);
     }
 
-run-skips : (l k : Link) (s : Said) (ss : List Said) (r : ℕ) → answer_to l s ≡ Refused r → (w e : ℕ) → Run l k ss w e
+run-skips : (l k : Link) (s : Said) (ss : List Said) (r : Refusal) → answer_to l s ≡ Err r → (w e : ℕ) → Run l k ss w e
     → Run l k (s ∷ ss) w e
 run-skips l k s ss r q w e i =
     record {
@@ -350,16 +350,16 @@ run [] l k j f m w e hw he few = run_none l k j w e (few (nothing_said l))
 run (s ∷ ss) l k j f m w e hw he few =
     go (answer_to l s) refl (λ l2 k2 j2 w2 h2 few2. run ss l2 k2 j2 f.1 m w2 e h2 he few2)
   where
-    go : (x : Sent) → answer_to l s ≡ x
+    go : (x : Result ℕ Refusal) → answer_to l s ≡ x
         → ((l2 k2 : Link) → Speaks l2 k2 → (w2 : ℕ) → w2 ≤ 3 → ((says l2 ss).bytes ≡ [] → w2 + e ≤ 3)
         → Run l2 k2 ss w2 e)
         → Run l k (s ∷ ss) w e
-    go (Written n) q ih =
+    go (Ok n) q ih =
         let kind = kind_of s.message in
         let body = body_of s.message s.payload in
         let l2 = sent_of l kind 0 n in
         let k2 = after_of k kind body m in
         let a = steps l k s n q j m in
         run-takes l k s ss n q j f.0 m w e hw (ih l2 k2 a.speaks 0 (omega arith) (λ z. omega arith))
-    go (Refused r) q ih =
+    go (Err r) q ih =
         run-skips l k s ss r q w e (ih l k j w hw (λ z. few (bytes_same l k s ss r q ∙ z)))

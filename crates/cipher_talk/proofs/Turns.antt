@@ -5,10 +5,10 @@ use mathlib.Core.Bool.{Bool, true, false, not}
 use mathlib.Core.List.{List, [], ◌∷◌, ◌++◌}
 use Prim.Native.Nat.{ℕ, ◌+◌, ◌-◌, ◌%◌, ◌≤◌}
 use lib.ListN.{length}
+use Rattle.std.specs.Result.{IsOk}
 use Rattle.wire.specs.Choice.{pick}
 use Rattle.aes.specs.Aes.{keys}
-use Rattle.aes.specs.Cbc.{encipher_answer, encipher_buffer}
-use Rattle.aes.specs.declared.Answer.TheVariants.{Done}
+use Rattle.aes.specs.Cbc.{encipher_answer, encipher_vector, encipher_buffer}
 use Rattle.cipher_laws.specs.Sizes.{Bytes, Whole}
 use Rattle.cipher_laws.proofs.Schedule.{keys_of}
 use Rattle.cipher_laws.proofs.Calls.{done-forth, bytes-forth}
@@ -110,7 +110,7 @@ module _ (a b : End) (ss : List Said) (room : List ℕ) (cs : List Cut) (last : 
 
   -- NEVER 37: neither enciphering nor deciphering any piece is refused
   pub never-37 :
-      ((encipher_answer a.outward.keys a.outward.vector (flushed (says a.link ss) room)).answer ≡ Done)
+      (IsOk (encipher_answer a.outward.keys a.outward.vector (flushed (says a.link ss) room)))
       × AllDone b.inward.vector (cut_by cs last (goes_out a ss room).bytes)
   never-37 = (
     done-forth a.outward.keys a.outward.vector clear whole,
@@ -126,7 +126,7 @@ module _ (a b : End) (ss : List Said) (room : List ℕ) (cs : List Cut) (last : 
       the-run.comes
 
   abbrev vector : List ℕ
-  vector = (encipher_answer (keys j.key) a.outward.vector clear).vector
+  vector = (encipher_vector (keys j.key) a.outward.vector clear)
 
   in_is : all_in b (cut_by cs last (goes_out a ss room).bytes)
       ≡ arrived b (record { link = the-run.link; got = meant a.link ss; left = fours_of the-run.left }) vector
@@ -148,8 +148,8 @@ module _ (a b : End) (ss : List Said) (room : List ℕ) (cs : List Cut) (last : 
       (record { link = the-run.link; got = meant a.link ss; left = fours_of the-run.left }) vector).end
   unfolding goes_out
   meets_on =
-      let e : (encipher_answer a.outward.keys a.outward.vector clear).vector ≡ vector =
-      ap (λ (x : List ℕ). (encipher_answer x a.outward.vector clear).vector) j.out_keys in
+      let e : (encipher_vector a.outward.keys a.outward.vector clear) ≡ vector =
+      ap (λ (x : List ℕ). (encipher_vector x a.outward.vector clear)) j.out_keys in
       record {
         key = j.key;
         key_is = j.key_is;

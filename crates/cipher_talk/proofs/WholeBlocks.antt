@@ -6,15 +6,15 @@ use mathlib.Core.Bool.{true}
 use mathlib.Core.List.{List, [], ◌∷◌, ◌++◌}
 use Prim.Native.Nat.{ℕ, ◌+◌, ◌%◌}
 use lib.ListN.{length}
+use Rattle.std.specs.Result.{IsOk}
 use Rattle.aes.specs.Cbc.{encipher_answer}
-use Rattle.aes.specs.declared.Answer.TheVariants.{Done}
 use Rattle.cipher_laws.proofs.Calls.{done-forth}
 use Rattle.link_state.specs.declared.Settings.{Settings}
-use Rattle.packet_out.specs.declared.Sent.TheVariants.{Written}
 use Rattle.flush.specs.Flush.{flush_step}
 use Rattle.link_calls.specs.Calls.{Call, flushes}
 use Rattle.link_padding.specs.Tally.{Tally, called, after, start}
 use Rattle.link_padding.proofs.Level.{padded-by-cipher, level}
+use Rattle.std.specs.Prelude.{Ok}
 
 -- more calls go on where the first ones ended
 goes_on : (t : Tally) (cs ds : List Call) → after t (cs ++ ds) ≡ after (after t cs) ds
@@ -44,8 +44,8 @@ module _ (set : Settings) (keyid : ℕ) (cs ds : List Call) (r1 r2 n1 n2 : ℕ) 
   unfolding after
   same = goes_on (start set keyid) cs (flushes r1 ∷ ds)
 
-  module _ (ciphered1 : before.link.ciphered ≡ true) (flushed1 : (flush_step before.link r1).answer ≡ Written n1)
-      (ciphered2 : later.link.ciphered ≡ true) (flushed2 : (flush_step later.link r2).answer ≡ Written n2) where
+  module _ (ciphered1 : before.link.ciphered ≡ true) (flushed1 : (flush_step before.link r1).answer ≡ Ok n1)
+      (ciphered2 : later.link.ciphered ≡ true) (flushed2 : (flush_step later.link r2).answer ≡ Ok n2) where
     level1 : first.bytes % 16 ≡ 0
     level1 = level set keyid cs (padded-by-cipher set keyid cs ciphered1) r1 n1 flushed1
 
@@ -57,5 +57,5 @@ module _ (set : Settings) (keyid : ℕ) (cs ds : List Call) (r1 r2 n1 n2 : ℕ) 
         (ap (λ (t : Tally). (flush_step t.link r2).answer) same ∙ flushed2))
 
     -- WHOLE BLOCKS: so many bytes lie between the two flushes, and enciphering them is done, under any keys and vector
-    pub whole-between : (w v s : List ℕ) → first.bytes + length s ≡ second.bytes → (encipher_answer w v s).answer ≡ Done
+    pub whole-between : (w v s : List ℕ) → first.bytes + length s ≡ second.bytes → IsOk (encipher_answer w v s)
     whole-between w v s e = done-forth w v s (omega (arith, level1, level2, e))

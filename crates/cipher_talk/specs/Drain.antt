@@ -1,6 +1,6 @@
 -- What a driver takes out of its clear bytes: receive calls, each behind the packet before it, until one waits or is
 -- refused, or it is this side's turn (document 01, "Packets", "Messages" and "Opening"). Assumes nothing.
-use Rattle.std.specs.Prelude.{ℕ, zero, suc, Bool, not, List, [], ◌∷◌, ◌++◌, eqb, length, drop}
+use Rattle.std.specs.Prelude.{ℕ, zero, suc, Bool, not, List, [], ◌∷◌, ◌++◌, eqb, length, drop, Err, Result, Ok}
 use Rattle.wire.specs.Choice.{pick, first}
 use Rattle.header.specs.declared.Side.{Side}
 use Rattle.link_state.specs.Turn.{may_send}
@@ -8,19 +8,20 @@ use Rattle.link_state.specs.declared.Link.{Link}
 use Rattle.link_state.specs.declared.Moment.{Moment}
 use Rattle.packet.specs.Body.{body_of}
 use Rattle.packet.specs.declared.Arrival.{Arrival}
-use Rattle.packet.specs.declared.Arrival.TheVariants.{Incomplete, Packet, Refused}
+use Rattle.packet.specs.declared.Arrival.TheVariants.{Incomplete, Packet}
 use Rattle.link.specs.Receive.{receive_of}
 use Rattle.link.specs.declared.Received.{Received}
 use Rattle.message.specs.PartOf.{part_of}
 use Rattle.message.specs.ReadMessage.{read_message}
 use Rattle.message.specs.declared.Message.{Message}
 use Rattle.pair_messages.specs.Hear.{side_of}
+use Rattle.refusal.specs.declared.Refusal.{Refusal}
 
 -- a message with its rest, page or text; a packet of the link itself, with its body; or a refusal
 pub data Got : Type 0 where
-  message : Message → List ℕ → Got
+  message : Result Message Refusal → List ℕ → Got
   control : ℕ → List ℕ → Got
-  fault : ℕ → Got
+  fault : Refusal → Got
 
 -- a packet of this type, with this body: Nonce, Handshake, Ping and Pong are the link's own, all else is a message
 unfoldable pub got_of : Side → ℕ → List ℕ → Got
@@ -44,11 +45,11 @@ abbrev pub ahead : Got → Drained → Drained
 ahead g d = record { link = d.link; got = g ∷ d.got; left = d.left }
 
 -- by one call's answer on the bytes s, and the link k after it; next is what is done behind a packet
-abbrev pub drain_on : (Link → List ℕ → Drained) → Side → List ℕ → Link → Arrival → Drained
-drain_on next side s k (Incomplete n) = record { link = k; got = []; left = s }
-drain_on next side s k (Packet kind consumed at len) =
-    ahead (got_of side kind (body_of s (Packet kind consumed at len))) (next k (drop consumed s))
-drain_on next side s k (Refused r) = record { link = k; got = fault r ∷ []; left = s }
+abbrev pub drain_on : (Link → List ℕ → Drained) → Side → List ℕ → Link → Result Arrival Refusal → Drained
+drain_on next side s k (Ok (Incomplete n)) = record { link = k; got = []; left = s }
+drain_on next side s k (Ok (Packet kind consumed at len)) =
+    ahead (got_of side kind (body_of s (Ok (Packet kind consumed at len)))) (next k (drop consumed s))
+drain_on next side s k (Err r) = record { link = k; got = fault r ∷ []; left = s }
 
 abbrev pub drain_by : (Link → List ℕ → Drained) → Link → List ℕ → Received → Drained
 drain_by next l s r = drain_on next (side_of l.set.server) s r.link r.answer

@@ -1,23 +1,22 @@
 -- The two ends of a ciphered connection, as their drivers keep them, and what goes from one to the other between two
 -- flushes (document 02, A9: "the driver deciphers before a receive and enciphers after a flush"). Assumes nothing.
-use Rattle.std.specs.Prelude.{◌≡◌, Bool, true, false, not, List, [], ◌∷◌, ◌++◌, ℕ, ◌*◌, ◌≤◌, ◌<◌, ◌^◌, length, take, drop, get_or}
+use Rattle.std.specs.Result.{IsOk}
+use Rattle.std.specs.Prelude.{◌≡◌, Bool, true, false, not, List, [], ◌∷◌, ◌++◌, ℕ, ◌*◌, ◌≤◌, ◌<◌, ◌^◌, length, take, drop, get_or, Err, Result, Ok}
 use Rattle.wire.specs.Choice.{pick}
 use Rattle.aes.specs.Aes.{keys}
 use Rattle.aes.specs.Back.{back_keys, back_cipher}
-use Rattle.aes.specs.Cbc.{encipher_answer, encipher_buffer, decipher_answer, decipher_buffer}
-use Rattle.aes.specs.declared.Answer.TheVariants.{Done}
+use Rattle.aes.specs.Cbc.{encipher_vector, encipher_buffer, decipher_answer, decipher_vector, decipher_buffer}
 use Rattle.cipher_laws.specs.Sizes.{Sized}
 use Rattle.link_state.specs.declared.Link.{Link}
 use Rattle.link_state.specs.declared.Moment.{Moment}
 use Rattle.packet_padding.specs.Padding.{fours_of}
-use Rattle.packet_out.specs.declared.Sent.{Sent}
-use Rattle.packet_out.specs.declared.Sent.TheVariants.{Written, Refused}
 use Rattle.message_out.specs.MessageStep.{message_answer, message_step, message_buffer}
 use Rattle.message_out.specs.declared.Outgoing.{Outgoing}
 use Rattle.flush.specs.Flush.{flush_step, flush_buffer}
 use Rattle.pair.specs.Awaits.{Awaits}
 use Rattle.pair_messages.specs.Meaning.{meaning_of, carried, Fits}
 use Rattle.cipher_talk.specs.Drain.{Got, message, all_of, Piece}
+use Rattle.refusal.specs.declared.Refusal.{Refusal}
 
 -- one direction of the cipher at one end: the round keys (for deciphering at the end that receives), and the vector
 pub record Half : Type 0 where
@@ -40,12 +39,12 @@ pub record Said : Type 0 where
   pub buffer : List ℕ
 
 -- the bytes that a call wrote at the front of its buffer, which is b after it
-abbrev pub front : Sent → List ℕ → List ℕ
-front (Written n) b = take n b
-front (Refused k) b = []
+abbrev pub front : Result ℕ Refusal → List ℕ → List ℕ
+front (Ok n) b = take n b
+front (Err k) b = []
 
 -- what the call for s answers, and the link after it
-abbrev pub answer_to : Link → Said → Sent
+abbrev pub answer_to : Link → Said → Result ℕ Refusal
 answer_to l s = message_answer l s.message s.payload (length s.buffer)
 
 abbrev pub sender : Link → Said → Link
@@ -66,9 +65,9 @@ says l (s ∷ ss) =
     }
 
 -- and what was meant: of each call that was accepted
-abbrev pub meant_by : Said → Sent → List Got
-meant_by s (Written n) = message (meaning_of s.message s.payload) (carried s.message s.payload) ∷ []
-meant_by s (Refused k) = []
+abbrev pub meant_by : Said → Result ℕ Refusal → List Got
+meant_by s (Ok n) = message (meaning_of s.message s.payload) (carried s.message s.payload) ∷ []
+meant_by s (Err k) = []
 
 unfoldable pub meant : Link → List Said → List Got
 meant l [] = []
@@ -91,7 +90,7 @@ sealed e w b =
         link = (flush_step w.link (length b)).link;
         outward = record {
           keys = e.outward.keys;
-          vector = (encipher_answer e.outward.keys e.outward.vector (flushed w b)).vector;
+          vector = encipher_vector e.outward.keys e.outward.vector (flushed w b);
         };
         inward = e.inward;
         held = e.held;
@@ -131,7 +130,7 @@ comes_in e p =
         outward = e.outward;
         inward = record {
           keys = e.inward.keys;
-          vector = (decipher_answer e.inward.vector p.bytes).vector;
+          vector = decipher_vector e.inward.vector p.bytes;
         };
         held = d.left;
       };
@@ -149,7 +148,7 @@ all_in e (p ∷ ps) =
 abbrev pub AllDone : List ℕ → List Piece → Type 0
 AllDone v [] = Unit
 AllDone v (p ∷ ps) =
-    ((decipher_answer v p.bytes).answer ≡ Done) × AllDone (decipher_answer v p.bytes).vector ps
+    (IsOk (decipher_answer v p.bytes)) × AllDone (decipher_vector v p.bytes) ps
 
 -- ---- turns of a conversation
 

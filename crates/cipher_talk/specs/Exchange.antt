@@ -10,7 +10,7 @@ use Rattle.link_state.specs.declared.Moment.{Moment}
 use Rattle.handshake_in.specs.declared.NetPid.{NetPid}
 use Rattle.handshake_out.specs.Handshake.{handshake_body, handshake_step, handshake_buffer}
 use Rattle.pair.specs.Opens.{Choices, Caller}
-use Rattle.cipher_choice.specs.Derives.{nonces_of, Known, derived_by}
+use Rattle.cipher_choice.specs.Derives.{nonces_of, Known, derived_by, kept_of}
 use Rattle.cipher_talk.specs.Drain.{Got, control}
 use Rattle.cipher_talk.specs.Ends.{End, front, Wrote, sealed, Out, Cut, cut_by, In, all_in, Turn, heard_in, meant_in}
 
@@ -31,10 +31,10 @@ pub record Suited (k : Secret) : Type 0 where
 abbrev pub secret_of : Known → List ℕ → List ℕ → Secret
 secret_of k key b =
     record {
-      key1 = (derived_by k false key b).key;
-      vector1 = (derived_by k false key b).vector;
-      key2 = (derived_by k true key b).key;
-      vector2 = (derived_by k true key b).vector;
+      key1 = (kept_of (derived_by k false key b)).key;
+      vector1 = (kept_of (derived_by k false key b)).vector;
+      key2 = (kept_of (derived_by k true key b)).key;
+      vector2 = (kept_of (derived_by k true key b)).vector;
     }
 
 -- the ends when the cipher begins, with no bytes left

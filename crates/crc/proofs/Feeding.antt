@@ -99,10 +99,10 @@ module _ (p : ℕ) (s : List ℕ) (h : Small s) where
       let h₃ = h (i + 3) in
       word-of-bytes p (le (part s i 4)) k d (omega arith) (omega arith) (omega arith) (omega arith)
 
-  -- one byte
-  pub one_byte : (c i : ℕ) {r : ℕ} → i < length s → r ≡ clocks p 8 (bit_xor c (get_or s i 0)) → r ≡ feeds p c (part s i 1)
-  unfolding feeds feed
-  one_byte c i f e = rw (drop-cons s i 0 f) e
+-- one byte
+pub one_byte : (p : ℕ) (s : List ℕ) (c i : ℕ) {r : ℕ} → i < length s → r ≡ feed p c (get_or s i 0) → r ≡ feeds p c (part s i 1)
+unfolding feeds
+one_byte p s c i f e = rw (drop-cons s i 0 f) e
 
 -- what is added to the register falls through with the bytes
 pub feeds-xor : (p c x : ℕ) (s : List ℕ) → Small s → bit_xor (feeds p c s) (clocks p (8 * length s) x) ≡ feeds p (bit_xor c x) s

@@ -2,12 +2,13 @@
 use mathlib.Core.Path.{◌≡◌, refl, sym, ap, ap₂, ◌∙◌}
 use mathlib.Core.List.{List}
 use Prim.Native.Nat.{ℕ, ◌+◌, ◌-◌, ◌*◌, ◌≤◌, min}
+use native.Mathlib.Nat.{zero-add}
 use native.Mathlib.Omega.{arith}
 use lib.ListN.{length, take, drop, length-drop}
-use lib.Seq.{take_all, drop-drop}
+use lib.Seq.{take_all}
 use lib.Bits.{bit_xor, xor_comm, xor_zero_r}
 use Rattle.wire.specs.Bytes.{le, part}
-use Rattle.wire.proofs.ByteLaws.{Small, small-drop, cut-part, window-part}
+use Rattle.wire.proofs.ByteLaws.{Small, small-drop, cut-part, part-part}
 use Rattle.crc.specs.Crc.{clocks, feeds}
 use Rattle.crc.specs.Interleaved.{merged}
 use Rattle.crc.specs.declared.Lanes.{Lanes}
@@ -16,17 +17,21 @@ use Rattle.crc.proofs.Register.{clocks-xor, clocks-add}
 use Rattle.crc.proofs.Feeding.{feeds-xor, zero-added, part-le, turn}
 
 -- what the parts between places that were kept within the end give
-pub merged-is : (p : ℕ) (r : Lanes) (s : List ℕ) {x y z c₀ c₁ c₂ c₃ : ℕ} → x ≡ min 8 (length s) → y ≡ min 16 (length s) → z ≡ min 24 (length s)
-    → c₀ ≡ feeds p r.first (take (x - 0) (drop 0 s))
+pub merged-is : (p : ℕ) (r : Lanes) (s : List ℕ) {x y z c₀ c₁ c₂ c₃ : ℕ} → x ≡ min (length s) 8 → y ≡ min (length s) 16 → z ≡ min (length s) 24
+    → c₀ ≡ feeds p r.first (take x s)
     → c₁ ≡ feeds p (bit_xor c₀ r.second) (take (y - x) (drop x s))
     → c₂ ≡ feeds p (bit_xor c₁ r.third) (take (z - y) (drop y s))
     → c₃ ≡ feeds p (bit_xor c₂ r.fourth) (take (length s - z) (drop z s))
     → c₃ ≡ merged p r s
 unfolding merged
-merged-is p r s {x} {y} {z} i j k e₀ e₁ e₂ e₃ =
+merged-is p r s {x} {y} {z} i' j' k' e₀ e₁ e₂ e₃ =
+    let i : x ≡ min 8 (length s) = omega arith in
+    let j : y ≡ min 16 (length s) = omega arith in
+    let k : z ≡ min 24 (length s) = omega arith in
+    let w : x ≡ x - 0 = omega arith in
     let o : 0 ≡ min 0 (length s) = omega arith in
     let l : length s ≡ min (24 + length s) (length s) = omega arith in
-    let q₀ = e₀ ∙ ap (feeds p r.first) (cut-part s 0 8 {x = 0} {y = x} o i) in
+    let q₀ = e₀ ∙ ap (λ (n : ℕ). feeds p r.first (take n s)) w ∙ ap (feeds p r.first) (cut-part s 0 8 {x = 0} {y = x} o i) in
     let q₁ = e₁ ∙ ap₂ (λ c t. feeds p (bit_xor c r.second) t) q₀ (cut-part s 8 8 {x = x} {y = y} i j) in
     let q₂ = e₂ ∙ ap₂ (λ c t. feeds p (bit_xor c r.third) t) q₁ (cut-part s 16 8 {x = y} {y = z} j k) in
     e₃ ∙ ap₂ (λ c t. feeds p (bit_xor c r.fourth) t) q₂ (cut-part s 24 (length s) {x = z} {y = length s} k l ∙ take_all (length s) (drop 24 s) (rw length-drop (omega arith)))
@@ -145,19 +150,17 @@ turned p r h l m f e₀ e₁ e₂ e₃ =
     ∙ sym (ap (λ (x : ℕ). sums p x l (length r)) words)
     ∙ sym (merged-sum p r h l)
 
--- the same at a place i of the bytes s, over the slice of 32 bytes from there as code has it
-pub turned-at : (p : ℕ) (s : List ℕ) → Small s → (i : ℕ) (l m : Lanes) → i + 64 ≤ length s
-    → m.first ≡ clocks p 256 (bit_xor l.first (le (part (take (i + 32 - i) (drop i s)) 0 8)))
-    → m.second ≡ clocks p 256 (bit_xor l.second (le (part (take (i + 32 - i) (drop i s)) 8 8)))
-    → m.third ≡ clocks p 256 (bit_xor l.third (le (part (take (i + 32 - i) (drop i s)) 16 8)))
-    → m.fourth ≡ clocks p 256 (bit_xor l.fourth (le (part (take (i + 32 - i) (drop i s)) 24 8)))
-    → merged p m (drop (i + 32) s) ≡ merged p l (drop i s)
-turned-at p s h i l m f e₀ e₁ e₂ e₃ =
-    let at : (x k : ℕ) → k + 8 ≤ 32 → clocks p 256 (bit_xor x (le (part (take (i + 32 - i) (drop i s)) k 8))) ≡ clocks p 256 (bit_xor x (le (part (drop i s) k 8))) =
-    λ x k g. ap (λ (t : List ℕ). clocks p 256 (bit_xor x (le t))) (window-part s i 32 k 8 g ∙ ap (take 8) (sym (drop-drop k i s))) in
-    ap (merged p m) (sym (drop-drop 32 i s))
-    ∙ turned p (drop i s) (small-drop s i h) l m (rw length-drop (omega arith)) (e₀ ∙ at l.first 0 (omega arith)) (e₁ ∙ at l.second 8 (omega arith))
-    (e₂ ∙ at l.third 16 (omega arith)) (e₃ ∙ at l.fourth 24 (omega arith))
+-- the same over the first 32 bytes, as code has them
+pub turned-front : (p : ℕ) (r : List ℕ) → Small r → (l m : Lanes) {w : List ℕ} → 64 ≤ length r → w ≡ take 32 r
+    → m.first ≡ clocks p 256 (bit_xor l.first (le (part w 0 8)))
+    → m.second ≡ clocks p 256 (bit_xor l.second (le (part w 8 8)))
+    → m.third ≡ clocks p 256 (bit_xor l.third (le (part w 16 8)))
+    → m.fourth ≡ clocks p 256 (bit_xor l.fourth (le (part w 24 8)))
+    → merged p m (drop 32 r) ≡ merged p l r
+turned-front p r h l m {w} f e e₀ e₁ e₂ e₃ =
+    let at : (x k : ℕ) → k + 8 ≤ 32 → clocks p 256 (bit_xor x (le (part w k 8))) ≡ clocks p 256 (bit_xor x (le (part r k 8))) =
+    λ x k g. ap (λ (t : List ℕ). clocks p 256 (bit_xor x (le t))) (ap (λ (t : List ℕ). part t k 8) e ∙ part-part r 0 32 k 8 g ∙ ap (λ (j : ℕ). part r j 8) (zero-add k)) in
+    turned p r h l m f (e₀ ∙ at l.first 0 (omega arith)) (e₁ ∙ at l.second 8 (omega arith)) (e₂ ∙ at l.third 16 (omega arith)) (e₃ ∙ at l.fourth 24 (omega arith))
 
 -- one register alone
 pub alone : (p c : ℕ) (s : List ℕ) {l : Lanes} → Small s → l.first ≡ c → l.second ≡ 0 → l.third ≡ 0 → l.fourth ≡ 0 → merged p l s ≡ feeds p c s

@@ -1,5 +1,5 @@
 // The table of CRC-32: at 256 k + x, what 8 (k + 25) bits make of the byte x. A computed test checks it.
-pub(crate) const TABLE: [u32; 2048] = [
+pub(crate) static TABLE: [u32; 2048] = [
     0x0000_0000,
     0xa58b_900e,
     0x9066_265d,

@@ -2,8 +2,8 @@
 // publisher that was lost, and those whose deadline has come. Each exported function wraps one call, of the crates
 // `inflight_gone` and `inflight_run_out`, and has its contract; the other calls are in the crates `ask_c` and `take_c`.
 //
-// The caller keeps the table and lends it, as arrays of crate `inflight`, and the slice for the other ends: a call
-// updates them where they stand, copies none, allocates nothing and decides nothing. `RelayDropped` is the answer.
+// The caller keeps the table and lends it, and the slice for the other ends: a call updates them where they stand,
+// copies none, allocates nothing and decides nothing. `RelayDropped` is the answer.
 #![tactic(auto)]
 
 mod drops;
@@ -11,6 +11,7 @@ mod drops;
 pub use drops::{relay_gone_lent, relay_run_out_lent};
 
 // How many requests were freed. refusal is the refusal's number, or 0; the count of a refusal is 0.
+// Kept: numbers and flags in place of a `Result` or an `Option`, since the C interface has these fields.
 #[repr(C)]
 #[derive(Clone, Copy)]
 pub struct RelayDropped {

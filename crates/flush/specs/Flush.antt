@@ -1,13 +1,13 @@
 -- The flush of a padded link (document 02, A7: "A flush call writes the words that bring the bytes since the first byte
 -- of our Handshake to a multiple of 16, and hands back their size in bytes"). Assumes nothing.
-use Rattle.std.specs.Prelude.{ℕ, ◌-◌, ◌*◌, ◌%◌, Bool, ◌&&◌, List, [], ◌∷◌, length, ltb, leb}
+use Rattle.std.specs.Prelude.{ℕ, ◌-◌, ◌*◌, ◌%◌, Bool, ◌&&◌, List, [], ◌∷◌, length, ltb, leb, Result, Ok, Err}
 use Rattle.std.proofs.lemmas.List.Edits.{sets}
 use Rattle.wire.specs.Choice.{pick, first}
 use Rattle.link_state.specs.declared.Link.{Link}
 use Rattle.packet_padding.specs.Padding.{padded_of, fours_of, phase_after}
-use Rattle.packet_out.specs.declared.Sent.{Sent}
-use Rattle.packet_out.specs.declared.Sent.TheVariants.{Written, Refused}
+use Rattle.refusal.specs.declared.Refusal.{Refusal}
 use Rattle.send_rules.specs.declared.Step.{Step}
+use Rattle.refusal.specs.declared.Refusal.TheVariants.{BufferTooSmall, LinkClosed}
 
 -- our Handshake was sent: a client's is the third packet of the opening, a server's the fourth
 unfoldable pub begun_of : Link → Bool
@@ -18,13 +18,13 @@ unfoldable pub words_due : Link → ℕ
 words_due l = pick (padded_of l && begun_of l) ((4 - l.phase % 4) % 4) 0
 
 -- "The flush has 20, then 16", for so much room; else the size of the words
-unfoldable pub flush_answer : Link → ℕ → Sent
+unfoldable pub flush_answer : Link → ℕ → Result ℕ Refusal
 flush_answer l room =
     first (
-    (l.closed, Refused 20) ∷
-    (ltb room (words_due l * 4), Refused 16) ∷
+    (l.closed, Err LinkClosed) ∷
+    (ltb room (words_due l * 4), Err BufferTooSmall) ∷
     []
-    ) (Written (words_due l * 4))
+    ) (Ok (words_due l * 4))
 
 -- a link that wrote n bytes of words: they count, and nothing else of it changes
 unfoldable pub flushed_of : Link → ℕ → Link
@@ -47,14 +47,14 @@ flushed_of l n =
     }
 
 -- the link after the call: a flush that is refused changes nothing
-abbrev pub flush_by : Link → Sent → Step
-flush_by l (Written n) = record { link = flushed_of l n; answer = Written n }
-flush_by l (Refused k) = record { link = l; answer = Refused k }
+abbrev pub flush_by : Link → Result ℕ Refusal → Step
+flush_by l (Ok n) = record { link = flushed_of l n; answer = Ok n }
+flush_by l (Err r) = record { link = l; answer = Err r }
 
 -- the buffer after the call: the words at its front, or all as it was
-abbrev pub flush_in : Link → List ℕ → Sent → List ℕ
-flush_in l b (Written n) = sets b 0 (fours_of (words_due l))
-flush_in l b (Refused k) = b
+abbrev pub flush_in : Link → List ℕ → Result ℕ Refusal → List ℕ
+flush_in l b (Ok n) = sets b 0 (fours_of (words_due l))
+flush_in l b (Err r) = b
 
 -- a flush call, with so much room
 unfoldable pub flush_step : Link → ℕ → Step

@@ -1,9 +1,8 @@
 // Flush: the words that bring what a padded link wrote since its Handshake to whole blocks of 16 bytes.
 //
 // `flush_step` takes a link by value and a lent buffer, and hands the link back beside the answer: the words' size,
-// with the words at the buffer's front, or a refusal's number, with the buffer as it was. `flush` is the same over a
-// link that is lent and updated where it stands. An unpadded link, or one before its Handshake, writes nothing. The
-// type that matters is `Sent`, of the crate `packet_out`.
+// with the words at the buffer's front, or a refusal, with the buffer as it was. `flush` is the same over a link that
+// is lent and updated where it stands. An unpadded link, or one before its Handshake, writes nothing.
 #![tactic(auto)]
 
 mod step;
@@ -12,17 +11,16 @@ ghost use Rattle.std.specs.Prelude.{◌≡◌, length};
 ghost use Rattle.flush.specs.Flush.{flush_step, flush_buffer};
 
 use link_state::Link;
-use packet_out::Sent;
+use refusal::Refusal;
 pub use step::flush_step;
 
 // The link is lent, and updated where it stands.
-pub fn flush(link: &mut Link, buf: &mut [u8]) -> Sent
+pub fn flush(link: &mut Link, buf: &mut [u8]) -> Result<usize, Refusal>
     ensures { (result ≡ (flush_step link.old (length buf.old)).answer)
         × (link.new ≡ (flush_step link.old (length buf.old)).link)
         × (buf.new ≡ flush_buffer link.old buf.old) }
 {
-    let l = *link;
-    let r = flush_step(l, buf);
+    let r = flush_step(*link, buf);
     *link = r.link;
     r.answer
 }

@@ -5,13 +5,13 @@ ghost use Rattle.packet_padding.specs.Padding.{fours_of};
 ghost use Rattle.flush.specs.Flush.{begun_of, words_due, flushed_of, flush_step, flush_buffer};
 
 use link_state::Link;
-use packet_out::Sent;
 use packet_padding::{padded, phase_after};
-use refusal::{BUFFER_TOO_SMALL, LINK_CLOSED};
+use refusal::Refusal;
 use send_rules::Step;
 use store::put_u32;
 
 // Whether our Handshake was sent.
+#[tactic(auto, unfolding(crate::specs::Flush::begun_of))]
 fn begun(link: Link) -> bool
     ensures { result ≡ begun_of link }
 {
@@ -23,15 +23,12 @@ fn begun(link: Link) -> bool
 }
 
 // How many words a flush writes.
+#[tactic(auto, unfolding(crate::specs::Flush::words_due))]
 fn words_due(link: Link) -> usize
     ensures { result ≡ words_due link }
 {
-    if padded(link) {
-        if begun(link) {
-            (4 - link.phase as usize % 4) % 4
-        } else {
-            0
-        }
+    if padded(link) && begun(link) {
+        (4 - usize::from(link.phase) % 4) % 4
     } else {
         0
     }
@@ -42,26 +39,19 @@ fn put_words(buf: &mut [u8], n: usize)
     requires { n ≤ 3 }
     ensures { buf.new ≡ sets buf.old 0 (fours_of n) }
 {
-    if n < 1 {
-        return;
+    for word in 0..n {
+        put_u32(buf, word * 4, 4);
     }
-    put_u32(buf, 0, 4);
-    if n < 2 {
-        return;
-    }
-    put_u32(buf, 4, 4);
-    if n < 3 {
-        return;
-    }
-    put_u32(buf, 8, 4);
 }
 
-fn flushed(mut link: Link, n: usize) -> Link
+#[tactic(auto, unfolding(crate::specs::Flush::flushed_of))]
+fn flushed(link: Link, n: usize) -> Link
     ensures { result ≡ flushed_of link n }
 {
-    let phase = phase_after(link, n);
-    link.phase = phase;
-    link
+    Link {
+        phase: phase_after(link, n),
+        ..link
+    }
 }
 
 // The words at the front of the buffer, and the link after them; or a refusal.
@@ -72,7 +62,7 @@ pub fn flush_step(link: Link, buf: &mut [u8]) -> Step
     if link.closed {
         return Step {
             link,
-            answer: Sent::Refused(LINK_CLOSED),
+            answer: Err(Refusal::LinkClosed),
         };
     }
     let words = words_due(link);
@@ -80,12 +70,12 @@ pub fn flush_step(link: Link, buf: &mut [u8]) -> Step
     if buf.len() < size {
         return Step {
             link,
-            answer: Sent::Refused(BUFFER_TOO_SMALL),
+            answer: Err(Refusal::BufferTooSmall),
         };
     }
     put_words(buf, words);
     Step {
         link: flushed(link, size),
-        answer: Sent::Written(size),
+        answer: Ok(size),
     }
 }

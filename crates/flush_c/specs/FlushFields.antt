@@ -1,16 +1,11 @@
 -- What a flush call answers, as a struct for C. Assumes nothing.
-use Rattle.packet_out.specs.declared.Sent.{Sent}
-use Rattle.packet_out.specs.declared.Sent.TheVariants.{Written, Refused}
-use Rattle.send_rules.specs.declared.Step.{Step}
 use Rattle.flush_c.specs.declared.RelayFlushed.{RelayFlushed}
-use Rattle.flush_c.specs.declared.Answered.{Answered}
+use Rattle.std.specs.Prelude.{ℕ, Result, Ok, Err}
+use Rattle.refusal.specs.Numbers.{number}
+use Rattle.refusal.specs.declared.Refusal.{Refusal}
 
-unfoldable pub flush_fields : Sent → RelayFlushed
+unfoldable pub flush_fields : Result ℕ Refusal → RelayFlushed
 -- "hands back their size in bytes"
-flush_fields (Written n) = record { refusal = 0; size = n }
+flush_fields (Ok n) = record { refusal = 0; size = n }
 -- "Every refusal gives back its number alone"
-flush_fields (Refused k) = record { refusal = k; size = 0 }
-
--- the link after the call, and the answer so
-abbrev pub answered_of : Step → Answered
-answered_of s = record { link = s.link; answer = flush_fields s.answer }
+flush_fields (Err k) = record { refusal = number k; size = 0 }

@@ -1,39 +1,25 @@
 // Flushing.
 ghost use Rattle.std.specs.Prelude.{◌≡◌, length};
 ghost use Rattle.flush.specs.Flush.{flush_step, flush_buffer};
-ghost use Rattle.flush_c.specs.FlushFields.{flush_fields, answered_of};
+ghost use Rattle.flush_c.specs.FlushFields.{flush_fields};
 
-use crate::{Answered, RelayFlushed};
-use flush::flush_step;
+use crate::RelayFlushed;
+use flush::flush;
 use link_state::Link;
-use packet_out::Sent;
+use refusal::Refusal;
 
-fn flush_fields(s: Sent) -> RelayFlushed
-    ensures { result ≡ flush_fields s }
-{
-    match s {
-        Sent::Written(n) => RelayFlushed {
-            refusal: 0,
-            size: n,
-        },
-        Sent::Refused(k) => RelayFlushed {
-            refusal: k,
-            size: 0,
-        },
-    }
-}
+impl From<Result<usize, Refusal>> for RelayFlushed {
+    ghost from_gives = { λ answer fields. fields ≡ flush_fields answer };
 
-// The by-value core of relay_flush.
-fn answered(link: Link, buf: &mut [u8]) -> Answered
-    ensures { (result ≡ answered_of (flush_step link (length buf.old)))
-        × (buf.new ≡ flush_buffer link buf.old) }
-{
-    let r = flush_step(link, buf);
-    let l = r.link;
-    let a = r.answer;
-    Answered {
-        link: l,
-        answer: flush_fields(a),
+    #[tactic(auto, unfolding(crate::specs::FlushFields::flush_fields))]
+    fn from(answer: Result<usize, Refusal>) -> RelayFlushed {
+        match answer {
+            Ok(size) => RelayFlushed { refusal: 0, size },
+            Err(refusal) => RelayFlushed {
+                refusal: u8::from(refusal),
+                size: 0,
+            },
+        }
     }
 }
 
@@ -44,8 +30,5 @@ pub extern "C" fn relay_flush(link: &mut Link, buf: &mut [u8]) -> RelayFlushed
         × (link.new ≡ (flush_step link.old (length buf.old)).link)
         × (buf.new ≡ flush_buffer link.old buf.old) }
 {
-    let l = *link;
-    let r = answered(l, buf);
-    *link = r.link;
-    r.answer
+    RelayFlushed::from(flush(link, buf))
 }

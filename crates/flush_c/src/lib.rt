@@ -8,20 +8,14 @@
 mod flushing;
 
 pub use flushing::relay_flush;
-use link_state::Link;
 
 // How many bytes the words take at the front of the buffer; or, where refusal is not 0, the refusal's number, and then
 // the size is 0 and no byte was written.
+// Kept: send_c's RelaySent under another name: send_c is a static library, on which no crate may stand, and a crate of
+// its own for two numbers is no plainer.
 #[repr(C)]
 #[derive(Clone, Copy)]
 pub struct RelayFlushed {
     pub refusal: u8,
     pub size: usize,
-}
-
-// The link after a flush call, and the answer.
-#[derive(Clone, Copy)]
-struct Answered {
-    link: Link,
-    answer: RelayFlushed,
 }

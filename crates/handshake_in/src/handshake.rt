@@ -1,30 +1,32 @@
 // The other side's Handshake.
 ghost use Rattle.std.specs.Prelude.{◌≡◌};
-ghost use Rattle.handshake_in.specs.Handshake.{flag_of, handshake_refusal};
+ghost use Rattle.handshake_in.specs.Handshake.{flag_of, check_handshake};
 
 use link_state::Settings;
-use refusal::{BEYOND_OFFER, OPENING_SHORT};
+use refusal::Refusal;
 use wire::u32_at;
 
 // Whether a Handshake's flags have 0x800, which offers CRC-32C or grants it.
+#[tactic(auto, unfolding(crate::specs::Handshake::flag_of))]
 pub fn flagged(b: &[u8]) -> bool
     ensures { result ≡ flag_of b.now }
 {
     u32_at(b, 0) / 0x800 % 2 == 1
 }
 
-// A refusal's number, or 0.
-pub fn handshake_refusal(set: Settings, b: &[u8]) -> u8
-    ensures { result ≡ handshake_refusal set b.now }
+// Refuses a Handshake with this body, or lets it pass.
+#[tactic(auto, unfolding(crate::specs::Handshake::check_handshake))]
+pub fn check_handshake(set: Settings, b: &[u8]) -> Result<(), Refusal>
+    ensures { result ≡ check_handshake set b.now }
 {
     if b.len() < 28 {
-        return OPENING_SHORT;
+        return Err(Refusal::OpeningShort);
     }
-    if set.server {
-        return 0;
+    if set.server || set.allows {
+        return Ok(());
     }
-    if set.allows {
-        return 0;
+    if flagged(b) {
+        return Err(Refusal::BeyondOffer);
     }
-    if flagged(b) { BEYOND_OFFER } else { 0 }
+    Ok(())
 }

@@ -8,7 +8,7 @@
 mod handshake;
 mod pids;
 
-pub use handshake::{flagged, handshake_refusal};
+pub use handshake::{check_handshake, flagged};
 pub use pids::net_pids;
 
 // A process as a Handshake names it.

@@ -6,6 +6,7 @@ use crate::{NetPid, NetPids};
 use wire::{u16_at, u32_at};
 
 // The NetPID whose 12 bytes begin at at.
+#[tactic(auto, unfolding(crate::specs::Pids::pid_at))]
 fn pid_at(b: &[u8], at: usize) -> NetPid
     requires { at ≤ 16 }
     ensures { result ≡ pid_at b.now at }
@@ -24,6 +25,7 @@ fn pid_at(b: &[u8], at: usize) -> NetPid
 
 // The NetPIDs that a Handshake with this body names. Of a body under 28 bytes, which a receive call refuses with 7,
 // what is there is read, and the rest counts as 0.
+#[tactic(auto, unfolding(crate::specs::Pids::pids_of))]
 pub fn net_pids(b: &[u8]) -> NetPids
     ensures { result ≡ pids_of b.now }
 {

@@ -6,19 +6,20 @@ ghost use Rattle.handshake_out.specs.Handshake.{flags_of, pid_bytes, handshake_b
 use handshake_in::NetPid;
 use link_state::Link;
 use packet::HANDSHAKE;
-use packet_out::{Sent, seal};
-use send_rules::{Step, control_answer, sent};
+use send_rules::{Step, control_step};
 use store::{put_u16, put_u32};
 
 // 0x800 where we offer CRC-32C, or grant it.
+#[tactic(auto, unfolding(crate::specs::Handshake::flags_of))]
 fn flags(link: Link) -> u32
     ensures { result ≡ flags_of link }
 {
-    if link.set.server {
-        if link.crc32c { 0x800 } else { 0 }
+    let flagged = if link.set.server {
+        link.crc32c
     } else {
-        if link.set.allows { 0x800 } else { 0 }
-    }
+        link.set.allows
+    };
+    if flagged { 0x800 } else { 0 }
 }
 
 fn put_pid(buf: &mut [u8], at: usize, p: NetPid)
@@ -45,19 +46,7 @@ pub fn handshake_step(link: Link, buf: &mut [u8], sender: NetPid, peer: NetPid) 
     ensures { (result ≡ handshake_step link sender peer (length buf.old))
         × (buf.new ≡ handshake_buffer link sender peer buf.old) }
 {
-    let answer = control_answer(link, HANDSHAKE, false, 28, buf.len());
-    match answer {
-        Sent::Refused(k) => Step {
-            link,
-            answer: Sent::Refused(k),
-        },
-        Sent::Written(n) => {
-            put_handshake(buf, flags(link), sender, peer);
-            seal(buf, link, HANDSHAKE, 28);
-            Step {
-                link: sent(link, HANDSHAKE, 0, n),
-                answer: Sent::Written(n),
-            }
-        }
-    }
+    control_step(link, buf, HANDSHAKE, false, 0, 28, |b| {
+        put_handshake(b, flags(link), sender, peer);
+    })
 }

@@ -1,13 +1,9 @@
 -- A message filled up: its own whole blocks, then its last one or two. Assumes nothing.
-use mathlib.Core.Path.{◌≡◌, refl, sym, ap, ap₂, ◌∙◌}
-use mathlib.Core.Bool.{Bool, true, false}
-use mathlib.Core.List.{List, ◌∷◌, ◌++◌, append_assoc}
-use Prim.Native.Nat.{ℕ, zero, suc, ◌+◌, ◌*◌, ◌-◌, ◌/◌, ◌%◌, ◌≤◌, ◌<◌}
-use native.Mathlib.Nat.{add-suc, add-zero, zero-add}
-use native.Mathlib.Omega.{arith}
-use lib.ListN.{length, take, drop, replicate, length-append, length-drop, length-replicate, length-reverse}
-use lib.ListN.{take-append-drop}
-use lib.Seq.{sets, sets-eq, take-append-le, drop-append-le, drop-append-add, length-take-le}
+use Rattle.std.proofs.Common.{◌≡◌, ℕ, zero, suc, ◌+◌, ◌*◌, ◌-◌, ◌/◌, ◌%◌, ◌≤◌, ◌<◌, Bool, true, false, List, ◌∷◌, ◌++◌, length, take, drop, replicate, get_or, refl, sym, ap, ap₂, ◌∙◌, append_assoc, add-suc, add-zero, zero-add, zero-mul, arith, length-append, length-drop, length-take-le}
+use Rattle.std.proofs.lemmas.List.{length-replicate, length-reverse, take-append-drop, take-append-le, drop-append-le, drop-drop, take_at}
+use Rattle.std.proofs.lemmas.List.Edits.{sets}
+use lib.Seq.{sets-eq, drop-append-add}
+use Rattle.std.specs.Simd.{first_chunks}
 use Rattle.wire.specs.Bytes.{part, bytes}
 use Rattle.wire.proofs.ByteLaws.{length-bytes}
 use Rattle.wire.proofs.StoreLaws.{runs-4, lent}
@@ -77,6 +73,14 @@ end-stored d s high {r} e e1 e2 e3 e4 =
 at_front : (b e : List ℕ) → length e ≤ length b → sets b 0 e ≡ e ++ drop (length e) b
 at_front b e h = sets-eq e b 0 (omega arith) ∙ ap (λ (i : ℕ). e ++ drop i b) (zero-add (length e))
 
+-- block i of a slice taken apart
+pub chunk-part : (n k : ℕ) (s d : List ℕ) (i : ℕ) → i < k → get_or (first_chunks n k s) i d ≡ part s (i * n) n
+chunk-part n zero s d i h = absurd (omega arith)
+chunk-part n (suc k) s d zero h = rw zero-mul refl
+chunk-part n (suc k) s d (suc i) h =
+    let e : n + i * n ≡ suc i * n = omega arith in
+    chunk-part n k (drop n s) d i (omega arith) ∙ ap (take n) (drop-drop (i * n) n s ∙ ap (λ (m : ℕ). drop m s) e)
+
 module _ {A : Type 0} (f : A → List ℕ → A) where
   -- bytes behind the blocks do not matter
   pub chained-front : (a : A) (l t : List ℕ) (n : ℕ) → n * 64 ≤ length l → chained f a (l ++ t) n ≡ chained f a l n
@@ -118,28 +122,15 @@ module _ {A : Type 0} (f : A → List ℕ → A) where
       ∙ chained-then a (take (n * 64) s) (end_of high s) n k l
       ∙ ap (λ (b : A). chained f b (end_of high s) k) (sym (own-blocks a s))
 
-  -- one block at the end, or two, read from a buffer that the end was stored to
-  pub ends-1 : {q : A} {d : List ℕ} (a : A) (high : Bool) (s b : List ℕ) → q ≡ chained f a s (length s / 64)
-      → d ≡ sets b 0 (end_of high s) → 128 ≤ length b
-      → length s % 64 < 56 → f q (take 64 d) ≡ hashed f a high s
-  unfolding chained
-  ends-1 a high s b e g h w =
+  -- the blocks of the end, k of them, read from a buffer that it was stored to
+  pub end-taken : {q : A} {d : List ℕ} {n : ℕ} (a : A) (high : Bool) (s b : List ℕ) (k : ℕ)
+      → q ≡ chained f a s (length s / 64)
+      → d ≡ sets b 0 (end_of high s) → 128 ≤ length b → n ≤ length d → n ≡ k * 64
+      → (length s % 64 + 72) / 64 ≡ k → chained f q (take n d) (length (take n d) / 64) ≡ hashed f a high s
+  end-taken {q} {d} {n} a high s b k e g h u v w =
       let l = length-end high s in
-      ap₂ f e (ap (take 64) (g ∙ at_front b (end_of high s) (omega arith))
-      ∙ take-append-le 64 (end_of high s) (drop (length (end_of high s)) b) (omega arith))
-      ∙ sym (hashed-end a high s 1 (omega arith))
-
-  pub ends-2 : {q : A} {d : List ℕ} (a : A) (high : Bool) (s b : List ℕ) → q ≡ chained f a s (length s / 64)
-      → d ≡ sets b 0 (end_of high s) → 128 ≤ length b
-      → 56 ≤ length s % 64 → f (f q (take 64 d)) (take 64 (drop 64 d)) ≡ hashed f a high s
-  unfolding chained
-  ends-2 a high s b e g h w =
-      let l = length-end high s in
-      let t = drop (length (end_of high s)) b in
-      let g' = g ∙ at_front b (end_of high s) (omega arith) in
-      ap₂ f
-      (ap₂ f e (ap (take 64) g' ∙ take-append-le 64 (end_of high s) t (omega arith)))
-      (ap (λ (u : List ℕ). take 64 (drop 64 u)) g'
-      ∙ ap (take 64) (drop-append-le 64 (end_of high s) t (omega arith))
-      ∙ take-append-le 64 (drop 64 (end_of high s)) t (omega (arith, length-drop 64 (end_of high s))))
-      ∙ sym (hashed-end a high s 2 (omega arith))
+      let m : length (end_of high s) ≡ n = omega arith in
+      let t : take n d ≡ end_of high s =
+      ap (take n) (g ∙ at_front b (end_of high s) (omega arith)) ∙ take_at (end_of high s) _ n m in
+      let p : length (take n d) / 64 ≡ k = omega (arith, ap length t) in
+      ap (chained f q (take n d)) p ∙ ap₂ (λ (x : A) (y : List ℕ). chained f x y k) e t ∙ sym (hashed-end a high s k w)

@@ -20,7 +20,7 @@ pub enum Side {
 }
 
 // What a value is at the front of what is left of a body. Flags: an extra follows; Marker: TL2 follows.
-#[derive(Clone, Copy)]
+#[derive(Clone, Copy, PartialEq, Eq)]
 pub enum Kind {
     Flags,
     Actor,

@@ -8,49 +8,34 @@ use crate::values::{
 };
 use crate::{Kind, Side};
 
+#[tactic(auto, unfolding(crate::specs::Headers::request_kind))]
 fn request_kind(value: u32) -> Kind
     ensures { result ≡ request_kind value }
 {
-    if value == DEST_FLAGS {
-        return Kind::Flags;
+    match value {
+        DEST_FLAGS => Kind::Flags,
+        DEST_ACTOR => Kind::Actor,
+        DEST_ACTOR_FLAGS => Kind::ActorFlags,
+        DIAGONAL | DIAGONAL_TARGETS => Kind::Diagonal,
+        TL2_MARKER => Kind::Marker,
+        _ => Kind::Other,
     }
-    if value == DEST_ACTOR {
-        return Kind::Actor;
-    }
-    if value == DEST_ACTOR_FLAGS {
-        return Kind::ActorFlags;
-    }
-    if value == DIAGONAL {
-        return Kind::Diagonal;
-    }
-    if value == DIAGONAL_TARGETS {
-        return Kind::Diagonal;
-    }
-    if value == TL2_MARKER {
-        return Kind::Marker;
-    }
-    Kind::Other
 }
 
+#[tactic(auto, unfolding(crate::specs::Headers::answer_kind))]
 fn answer_kind(value: u32) -> Kind
     ensures { result ≡ answer_kind value }
 {
-    if value == REQ_RESULT_HEADER {
-        return Kind::ResultHeader;
+    match value {
+        REQ_RESULT_HEADER => Kind::ResultHeader,
+        REQ_ERROR | WRAPPED_ERROR => Kind::Error,
+        NUMBERED_ERROR => Kind::NumberedError,
+        _ => Kind::Other,
     }
-    if value == REQ_ERROR {
-        return Kind::Error;
-    }
-    if value == WRAPPED_ERROR {
-        return Kind::Error;
-    }
-    if value == NUMBERED_ERROR {
-        return Kind::NumberedError;
-    }
-    Kind::Other
 }
 
 // The header that has this value at this side.
+#[tactic(auto, unfolding(crate::specs::Headers::kind_of))]
 pub fn kind_of(side: Side, value: u32) -> Kind
     ensures { result ≡ kind_of side value }
 {

@@ -4,3 +4,4 @@ pub mod MatchLaws
 pub mod AskLaws
 pub mod MaskLaws
 pub mod OrderLaws
+pub mod CheckLaws

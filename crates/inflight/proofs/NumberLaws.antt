@@ -1,14 +1,16 @@
 -- Laws on signed numbers: when two are the same.
 -- Assumes nothing.
-use mathlib.Core.Path.{◌≡◌, refl, sym, ap, ◌∙◌}
+use mathlib.Core.Path.{◌≡◌, refl, ap, ◌∙◌}
 use Prim.Native.Nat.{ℕ}
-use mathlib.Core.Bool.{Bool, true, false}
-use lib.Dec.{eqb}
+use mathlib.Core.Bool.{true, false}
 use lib.IntN.{ℤ, pos, negsuc}
 use mir.Syntax.{w64}
 use mir.Val.{SFits, of_z, to_z}
 use mir.Facts.{to_z-of_z}
 use borrow.Author.Tests.{eqb-true, eqb-false, eq-eqb, ne_eqb}
+use Rattle.std.specs.Ordering.{int_eq}
+use Rattle.std.specs.Bool.{one_answer}
+use Rattle.std.proofs.lemmas.Bool.Decides.{Decides-int_eq}
 use Rattle.inflight.specs.Numbers.{same}
 
 pub same_true : (a b : ℤ) → same a b ≡ true → a ≡ b
@@ -33,10 +35,10 @@ ne_same (pos m) (negsuc n) h = refl
 ne_same (negsuc m) (pos n) h = refl
 ne_same (negsuc m) (negsuc n) h = ne_eqb m n (λ e. h (ap negsuc e))
 
--- two numbers that fit are the same where their bits are
-pub bits-same : (a b : ℤ) → SFits w64 a → SFits w64 b → eqb (of_z w64 a) (of_z w64 b) ≡ same a b
-bits-same a b p q = go (eqb (of_z w64 a) (of_z w64 b)) refl
-  where
-    go : (t : Bool) → eqb (of_z w64 a) (of_z w64 b) ≡ t → eqb (of_z w64 a) (of_z w64 b) ≡ same a b
-    go true e = e ∙ sym (eq-same a b (sym (to_z-of_z p) ∙ ap (to_z w64) (eqb-true (of_z w64 a) (of_z w64 b) e) ∙ to_z-of_z q))
-    go false e = e ∙ sym (ne_same a b (λ h. eqb-false (of_z w64 a) (of_z w64 b) e (ap (of_z w64) h)))
+-- what `==` answers
+pub int-same : (a b : ℤ) → int_eq a b ≡ same a b
+int-same a b = one_answer (int_eq a b) (same a b) (Decides-int_eq a b) (same_true a b, eq-same a b)
+
+-- and of a number that was read
+pub read-same : (a b : ℤ) → SFits w64 a → int_eq (to_z w64 (of_z w64 a)) b ≡ same a b
+read-same a b f = ap (λ x. int_eq x b) (to_z-of_z f) ∙ int-same a b

@@ -1,17 +1,16 @@
 -- A list of calls, and what is heard of each: from the table, and from the model.
 -- Assumes nothing.
-use Rattle.std.specs.Prelude.{ℕ, List, [], ◌∷◌, ℤ}
+use Rattle.std.specs.Prelude.{ℕ, List, [], ◌∷◌, ℤ, Result}
 use Rattle.inflight.specs.Model.{Model}
 use Rattle.inflight.specs.Model as M
 use Rattle.inflight.specs.Tables as T
 use Rattle.inflight.specs.declared.FrontNumber.{FrontNumber}
 use Rattle.inflight.specs.declared.PublisherNumber.{PublisherNumber}
-use Rattle.inflight.specs.Tables.{Table}
+use Rattle.inflight.specs.declared.Table.{Table}
 use Rattle.inflight.specs.declared.Peer.{Peer}
-use Rattle.inflight.specs.declared.AskAnswer.{AskAnswer}
-use Rattle.inflight.specs.declared.ReplyAnswer.{ReplyAnswer}
-use Rattle.inflight.specs.declared.CancelAnswer.{CancelAnswer}
-use Rattle.inflight.specs.declared.DropAnswer.{DropAnswer}
+use Rattle.inflight.specs.declared.FrontEnd.{FrontEnd}
+use Rattle.inflight.specs.declared.PublisherEnd.{PublisherEnd}
+use Rattle.refusal.specs.declared.Refusal.{Refusal}
 
 -- a call with its arguments; an ask's are link, number, publisher, time and timeout.
 -- Gone, which stands for closed and lost, and run out, which brings its time, with the slice that they are lent
@@ -28,10 +27,10 @@ old_ask l n p = ask l n p 0 0
 
 -- what a call hands back; of gone and run out also the whole slice afterwards
 pub data Heard : Type 0 where
-  asked : AskAnswer → Heard
-  replied : ReplyAnswer → Heard
-  cancelled : CancelAnswer → Heard
-  dropped : DropAnswer → List ℤ → Heard
+  asked : Result PublisherNumber Refusal → Heard
+  replied : Result FrontEnd Refusal → Heard
+  cancelled : Result PublisherEnd Refusal → Heard
+  dropped : Result ℕ Refusal → List ℤ → Heard
 
 -- the table: what the contracts of the five functions say
 abbrev pub table_heard : Table → Call → Heard

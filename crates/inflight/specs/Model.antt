@@ -1,7 +1,8 @@
 -- The model is document 01's book. It is fed the calls' arguments alone, and shares with the table the types of
--- requests, numbers and answers. Each call has its refusal number (0: not refused), its answer, and the model after
--- it; a refused call changes nothing. Assumes nothing.
-use Rattle.std.specs.Prelude.{ℕ, ◌+◌, ◌*◌, max, Bool, not, ◌&&◌, List, [], ◌∷◌, ◌++◌, eqb, leb, ltb, ℤ, pos, length, get_or, set, replicate}
+-- requests, numbers and answers. Each call has its check, which may refuse it, its answer, and the model after it; a
+-- refused call changes nothing. Assumes nothing.
+use Rattle.std.specs.Prelude.{ℕ, ◌+◌, ◌*◌, max, Bool, not, ◌&&◌, List, [], ◌∷◌, ◌++◌, Result, Ok, Err, is_ok, ⊤, eqb, leb, ltb, ℤ, pos, length, get_or, set, replicate}
+use Rattle.std.specs.Result.{result_and}
 use Rattle.wire.specs.Choice.{pick, first}
 use Rattle.inflight.specs.Numbers.{same, after}
 use Rattle.inflight.specs.Matching.{matching, without, load, capacity_taken, next_free, other_ends, over_front, blank}
@@ -12,14 +13,10 @@ use Rattle.inflight.specs.Requests.{Key}
 use Rattle.inflight.specs.Requests.{Reply, Cancel, Due, key_of}
 use Rattle.inflight.specs.declared.Peer.{Peer}
 use Rattle.inflight.specs.declared.Peer.TheVariants as P
-use Rattle.inflight.specs.declared.AskAnswer.{AskAnswer}
-use Rattle.inflight.specs.declared.AskAnswer.TheVariants as A
-use Rattle.inflight.specs.declared.ReplyAnswer.{ReplyAnswer}
-use Rattle.inflight.specs.declared.ReplyAnswer.TheVariants as R
-use Rattle.inflight.specs.declared.CancelAnswer.{CancelAnswer}
-use Rattle.inflight.specs.declared.CancelAnswer.TheVariants as C
-use Rattle.inflight.specs.declared.DropAnswer.{DropAnswer}
-use Rattle.inflight.specs.declared.DropAnswer.TheVariants as D
+use Rattle.inflight.specs.declared.FrontEnd.{FrontEnd}
+use Rattle.inflight.specs.declared.PublisherEnd.{PublisherEnd}
+use Rattle.refusal.specs.declared.Refusal.{Refusal}
+use Rattle.refusal.specs.declared.Refusal.TheVariants.{OutOfRange, NumberZero, InFlightAlready, LoadAtLimit, CapacityGone, NoSuchRequest, BufferTooSmall}
 
 -- "it keeps its entries in the order of acceptance, and each publisher's last number": here the number after the
 -- last, so that the first number of a fresh table needs no rule of its own. "Each entry's deadline and the latest time
@@ -61,22 +58,22 @@ deadline_at now timeout = pick (eqb timeout 0) 0 (now + timeout)
 abbrev pub none : Key → List Request → Bool
 none k es = eqb (length (matching k es)) 0
 
--- ask: 30, 12, 31, 32, 33, and 0 where it is accepted.
+-- ask: 30, 12, 31, 32, 33.
 -- 30: link, publisher or time out of range. 12: the number is 0. 31: the link has that number in flight already.
 -- 32: the publisher's load is 16 or more. 33: it is 4 or more, and the eight loads, each counted as at least 4, add
 -- up to 64
-unfoldable pub ask_refusal : Model → ℕ → FrontNumber → ℕ → ℕ → ℕ
-ask_refusal m l n p time =
+unfoldable pub check_ask : Model → ℕ → FrontNumber → ℕ → ℕ → Result ⊤ Refusal
+check_ask m l n p time =
     first
-    ((no_link l, 30)
-    ∷ (no_publisher p, 30)
-    ∷ (no_time time, 30)
-    ∷ (same n.0 (pos 0), 12)
-    ∷ (not (none (Cancel l n) m.requests), 31)
-    ∷ (leb 16 (load m.requests p), 32)
-    ∷ (leb 4 (load m.requests p) && eqb (capacity_taken m.requests) 64, 33)
+    ((no_link l, Err OutOfRange)
+    ∷ (no_publisher p, Err OutOfRange)
+    ∷ (no_time time, Err OutOfRange)
+    ∷ (same n.0 (pos 0), Err NumberZero)
+    ∷ (not (none (Cancel l n) m.requests), Err InFlightAlready)
+    ∷ (leb 16 (load m.requests p), Err LoadAtLimit)
+    ∷ (leb 4 (load m.requests p) && eqb (capacity_taken m.requests) 64, Err CapacityGone)
     ∷ [])
-    0
+    (Ok tt)
 
 -- "a publisher's next number is the last plus one .., passing over any in flight with that publisher"
 abbrev pub given : Model → ℕ → PublisherNumber
@@ -103,12 +100,11 @@ accept m l n p time timeout =
     }
 
 -- "which is the answer"
-unfoldable pub ask_answer : Model → ℕ → FrontNumber → ℕ → ℕ → AskAnswer
-ask_answer m l n p time =
-    pick (eqb (ask_refusal m l n p time) 0) (A.Accepted (given m p)) (A.Refused (ask_refusal m l n p time))
+unfoldable pub ask_answer : Model → ℕ → FrontNumber → ℕ → ℕ → Result PublisherNumber Refusal
+ask_answer m l n p time = result_and (check_ask m l n p time) (Ok (given m p))
 
 unfoldable pub ask : Model → ℕ → FrontNumber → ℕ → ℕ → ℕ → Model
-ask m l n p time timeout = pick (eqb (ask_refusal m l n p time) 0) (accept m l n p time timeout) m
+ask m l n p time timeout = pick (is_ok (check_ask m l n p time)) (accept m l n p time timeout) m
 
 -- "strikes": the requests that a key matches are removed
 abbrev pub remove : Model → Key → Model
@@ -118,57 +114,60 @@ remove m k = record { requests = without k m.requests; next = m.next; seen = m.s
 abbrev pub matched : Model → Key → Request
 matched m k = get_or (matching k m.requests) 0 blank
 
--- reply and cancel: 30, 12, 34, and 0 where they find their request.
+-- reply and cancel: 30, 12, 34; else they find their request.
 -- 30: publisher or link out of range. 12: the number is 0. 34: there is no such request
-unfoldable pub take_refusal : Model → Bool → ℤ → Key → ℕ
-take_refusal m range n k = first ((range, 30) ∷ (same n (pos 0), 12) ∷ (none k m.requests, 34) ∷ []) 0
+unfoldable pub check_take : Model → Bool → ℤ → Key → Result ⊤ Refusal
+check_take m range n k =
+    first
+    ((range, Err OutOfRange) ∷ (same n (pos 0), Err NumberZero) ∷ (none k m.requests, Err NoSuchRequest) ∷ [])
+    (Ok tt)
 
 unfoldable pub taken : Model → Bool → ℤ → Key → Model
-taken m range n k = pick (eqb (take_refusal m range n k) 0) (remove m k) m
+taken m range n k = pick (is_ok (check_take m range n k)) (remove m k) m
 
 -- "reply strikes the entry of its publisher and number": the answer is its link and front number
-unfoldable pub reply_answer : Model → ℕ → PublisherNumber → ReplyAnswer
+unfoldable pub reply_answer : Model → ℕ → PublisherNumber → Result FrontEnd Refusal
 reply_answer m p n =
-    pick (eqb (take_refusal m (no_publisher p) n.0 (Reply p n)) 0)
-    (R.Front (matched m (Reply p n)).link (matched m (Reply p n)).front)
-    (R.Refused (take_refusal m (no_publisher p) n.0 (Reply p n)))
+    result_and (check_take m (no_publisher p) n.0 (Reply p n))
+    (Ok (record { link = (matched m (Reply p n)).link; number = (matched m (Reply p n)).front }))
 
 abbrev pub reply : Model → ℕ → PublisherNumber → Model
 reply m p n = taken m (no_publisher p) n.0 (Reply p n)
 
 -- "cancel that of its link and number": the answer is its publisher and publisher number
-unfoldable pub cancel_answer : Model → ℕ → FrontNumber → CancelAnswer
+unfoldable pub cancel_answer : Model → ℕ → FrontNumber → Result PublisherEnd Refusal
 cancel_answer m l n =
-    pick (eqb (take_refusal m (no_link l) n.0 (Cancel l n)) 0)
-    (C.Publisher (matched m (Cancel l n)).publisher (matched m (Cancel l n)).number)
-    (C.Refused (take_refusal m (no_link l) n.0 (Cancel l n)))
+    result_and (check_take m (no_link l) n.0 (Cancel l n))
+    (Ok (record { publisher = (matched m (Cancel l n)).publisher; number = (matched m (Cancel l n)).number }))
 
 abbrev pub cancel : Model → ℕ → FrontNumber → Model
 cancel m l n = taken m (no_link l) n.0 (Cancel l n)
 
--- gone and run out: 30, 16, and 0 where they free their requests.
+-- gone and run out: 30, 16; else they free their requests.
 -- 30: link, publisher or time out of range. 16: closed and lost "strike none if the slice has under two numbers for
 -- each"; so does run out
-unfoldable pub drop_refusal : Model → Bool → Key → List ℤ → ℕ
-drop_refusal m range k out = first ((range, 30) ∷ (ltb (length out) (2 * length (matching k m.requests)), 16) ∷ []) 0
+unfoldable pub check_drop : Model → Bool → Key → List ℤ → Result ⊤ Refusal
+check_drop m range k out =
+    first
+    ((range, Err OutOfRange) ∷ (ltb (length out) (2 * length (matching k m.requests)), Err BufferTooSmall) ∷ [])
+    (Ok tt)
 
 -- "the count is handed back"
-unfoldable pub drop_answer : Model → Bool → Key → List ℤ → DropAnswer
-drop_answer m range k out =
-    pick (eqb (drop_refusal m range k out) 0) (D.Count (length (matching k m.requests))) (D.Refused (drop_refusal m range k out))
+unfoldable pub drop_answer : Model → Bool → Key → List ℤ → Result ℕ Refusal
+drop_answer m range k out = result_and (check_drop m range k out) (Ok (length (matching k m.requests)))
 
 -- "write their other ends, oldest accepted first, two signed 64-bit numbers each, into a lent slice; what lies past
 -- them stays"
 unfoldable pub drop_slice : Model → Bool → Key → List ℤ → List ℤ
-drop_slice m range k out = pick (eqb (drop_refusal m range k out) 0) (over_front (other_ends k (matching k m.requests)) out) out
+drop_slice m range k out = pick (is_ok (check_drop m range k out)) (over_front (other_ends k (matching k m.requests)) out) out
 
 -- "numbering goes on"
 unfoldable pub dropped : Model → Bool → Key → List ℤ → Model
-dropped m range k out = pick (eqb (drop_refusal m range k out) 0) (remove m k) m
+dropped m range k out = pick (is_ok (check_drop m range k out)) (remove m k) m
 
 -- "closed all of its link, lost all of its publisher": one call "that takes the side and its number" stands for both
 -- (document 02, A4)
-abbrev pub gone_answer : Model → Peer → List ℤ → DropAnswer
+abbrev pub gone_answer : Model → Peer → List ℤ → Result ℕ Refusal
 gone_answer m peer out = drop_answer m (no_peer peer) (key_of peer) out
 
 abbrev pub gone_slice : Model → Peer → List ℤ → List ℤ
@@ -182,7 +181,7 @@ gone m peer out = dropped m (no_peer peer) (key_of peer) out
 abbrev pub run_out_key : Model → ℕ → Key
 run_out_key m time = Due (latest m time)
 
-abbrev pub run_out_answer : Model → ℕ → List ℤ → DropAnswer
+abbrev pub run_out_answer : Model → ℕ → List ℤ → Result ℕ Refusal
 run_out_answer m time out = drop_answer m (no_time time) (run_out_key m time) out
 
 abbrev pub run_out_slice : Model → ℕ → List ℤ → List ℤ
@@ -195,6 +194,6 @@ see m now = record { requests = m.requests; next = m.next; seen = now }
 -- its time is seen; "a refused call changes nothing there"
 unfoldable pub run_out : Model → ℕ → List ℤ → Model
 run_out m time out =
-    pick (eqb (drop_refusal m (no_time time) (run_out_key m time) out) 0)
+    pick (is_ok (check_drop m (no_time time) (run_out_key m time) out))
     (see (remove m (run_out_key m time)) (latest m time))
     m

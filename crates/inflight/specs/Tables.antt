@@ -1,7 +1,7 @@
 -- The table: 64 fixed slots, and what each call does on any contents of them, also some that no fresh table leads to.
 -- A request stays in its slot until it is freed; masks say which slots are used, and an order which of them is older.
 -- Assumes nothing.
-use Rattle.std.specs.Prelude.{◌≡◌, ℕ, zero, suc, ◌+◌, ◌*◌, ◌^◌, ◌%◌, min, max, Bool, true, false, not, ◌&&◌, List, [], ◌∷◌, ◌++◌, map, eqb, leb, ltb, ℤ, pos, length, take, get_or, set, replicate}
+use Rattle.std.specs.Prelude.{◌≡◌, ℕ, zero, suc, ◌+◌, ◌*◌, ◌^◌, ◌%◌, min, max, Bool, true, false, not, ◌&&◌, List, [], ◌∷◌, ◌++◌, map, Result, Ok, Err, ⊤, eqb, leb, ltb, ℤ, pos, length, take, get_or, set, replicate}
 use Rattle.std.specs.Int.Bits.{bit_or}
 use Rattle.std.specs.Int.Count.{ones}
 use Rattle.std.specs.Int.Signed.{lt_z}
@@ -16,28 +16,11 @@ use Rattle.inflight.specs.declared.FrontNumber.{FrontNumber}
 use Rattle.inflight.specs.declared.PublisherNumber.{PublisherNumber}
 use Rattle.inflight.specs.declared.Peer.{Peer}
 use Rattle.inflight.specs.declared.Peer.TheVariants as P
-use Rattle.inflight.specs.declared.FreshAnswer.{FreshAnswer}
-use Rattle.inflight.specs.declared.FreshAnswer.TheVariants as F
-use Rattle.inflight.specs.declared.AskAnswer.{AskAnswer}
-use Rattle.inflight.specs.declared.AskAnswer.TheVariants as A
-use Rattle.inflight.specs.declared.ReplyAnswer.{ReplyAnswer}
-use Rattle.inflight.specs.declared.ReplyAnswer.TheVariants as R
-use Rattle.inflight.specs.declared.CancelAnswer.{CancelAnswer}
-use Rattle.inflight.specs.declared.CancelAnswer.TheVariants as C
-use Rattle.inflight.specs.declared.DropAnswer.{DropAnswer}
-use Rattle.inflight.specs.declared.DropAnswer.TheVariants as D
-
--- masks: 0 the used slots, 1 + p those of publisher p.
--- numbers: i the front number of slot i, 64 + i its publisher number, 128 + p the number after publisher p's last one.
--- places: i the link of slot i, 64 + i its publisher.
--- order: i the place of slot i in the order of acceptance, 0 for the oldest.
--- times: i the deadline of slot i, 0 for none; 64 the latest time seen
-pub record Table : Type 0 where
-  pub masks : List ℕ
-  pub numbers : List ℤ
-  pub places : List ℕ
-  pub order : List ℕ
-  pub times : List ℕ
+use Rattle.inflight.specs.declared.FrontEnd.{FrontEnd}
+use Rattle.inflight.specs.declared.PublisherEnd.{PublisherEnd}
+use Rattle.inflight.specs.declared.Table.{Table}
+use Rattle.refusal.specs.declared.Refusal.{Refusal}
+use Rattle.refusal.specs.declared.Refusal.TheVariants.{OutOfRange, NumberZero, InFlightAlready, LoadAtLimit, CapacityGone, NoSuchRequest, BufferTooSmall}
 
 -- a table by its arrays
 abbrev pub table_of : List ℕ → List ℤ → List ℕ → List ℕ → List ℕ → Table
@@ -68,14 +51,14 @@ line t = take (ones (used t)) (laid_out t.order (slots (used t)) (replicate 64 0
 
 pub record Started : Type 0 where
   pub table : Table
-  pub answer : FreshAnswer
+  pub answer : Result ⊤ Refusal
 
 -- "a fresh table takes one first publisher number, at least 1, for all eight": one below 1 is 30, and the table stays
 abbrev pub no_first : PublisherNumber → Bool
 no_first n = lt_z n.0 (pos 1)
 
-unfoldable pub fresh_answer : PublisherNumber → FreshAnswer
-fresh_answer n = pick (no_first n) (F.Refused 30) F.Ready
+unfoldable pub fresh_answer : PublisherNumber → Result ⊤ Refusal
+fresh_answer n = pick (no_first n) (Err OutOfRange) (Ok tt)
 
 -- no slot is used; every publisher's next number is the first; what the slots held stays
 unfoldable pub fresh_masks : PublisherNumber → List ℕ → List ℕ
@@ -126,21 +109,26 @@ unfoldable pub free_of : ℕ → ℕ → List ℤ → PublisherNumber → Publis
 free_of zero m ns n = n
 free_of (suc tries) m ns n = pick (eqb (seek (is_number ns n) (slots m)) 64) n (free_of tries m ns (after n))
 
--- 32 and 33, and 0 where neither applies
-unfoldable pub load_refusal : List ℕ → ℕ → ℕ
-load_refusal ms p = first ((leb 16 (load_of ms p), 32) ∷ (leb 4 (load_of ms p) && eqb (taken_of ms) 64, 33) ∷ []) 0
-
--- 30, 12, 31, 32, 33, and 0 where none applies
-unfoldable pub ask_refusal_of : List ℕ → List ℤ → List ℕ → ℕ → FrontNumber → ℕ → ℕ → ℕ
-ask_refusal_of ms ns ps l n p time =
+-- 32 and 33
+unfoldable pub check_load : List ℕ → ℕ → Result ⊤ Refusal
+check_load ms p =
     first
-    ((no_link l, 30)
-    ∷ (no_publisher p, 30)
-    ∷ (no_time time, 30)
-    ∷ (same n.0 (pos 0), 12)
-    ∷ (not (eqb (seek (is_front ns ps l n) (slots (get_or ms 0 0))) 64), 31)
+    ((leb 16 (load_of ms p), Err LoadAtLimit)
+    ∷ (leb 4 (load_of ms p) && eqb (taken_of ms) 64, Err CapacityGone)
     ∷ [])
-    (load_refusal ms p)
+    (Ok tt)
+
+-- 30, 12, 31, 32, 33
+unfoldable pub check_ask_of : Table → ℕ → FrontNumber → ℕ → ℕ → Result ⊤ Refusal
+check_ask_of t l n p time =
+    first
+    ((no_link l, Err OutOfRange)
+    ∷ (no_publisher p, Err OutOfRange)
+    ∷ (no_time time, Err OutOfRange)
+    ∷ (same n.0 (pos 0), Err NumberZero)
+    ∷ (not (eqb (seek (is_front t.numbers t.places l n) (slots (used t))) 64), Err InFlightAlready)
+    ∷ [])
+    (check_load t.masks p)
 
 -- the number that an ask is given
 abbrev pub given_of : Table → ℕ → PublisherNumber
@@ -168,20 +156,24 @@ placed t l n p s g time timeout =
 
 pub record Asked : Type 0 where
   pub table : Table
-  pub answer : AskAnswer
+  pub answer : Result PublisherNumber Refusal
+
+-- what the check of an ask refuses leaves the table
+abbrev pub asked_after : Table → Result ⊤ Refusal → Asked → Asked
+asked_after t (Ok _) asked = asked
+asked_after t (Err refusal) asked = record { table = t; answer = Err refusal }
 
 -- "a new ticket takes the lowest free slot"; where all 64 are used, which no fresh table leads to, the ask is refused
 -- with 33
 unfoldable pub ask_of : Table → ℕ → FrontNumber → ℕ → ℕ → ℕ → Asked
 ask_of t l n p time timeout =
-    pick (eqb (ask_refusal_of t.masks t.numbers t.places l n p time) 0)
+    asked_after t (check_ask_of t l n p time)
     (pick (leb 64 (lowest_free (used t)))
-    (record { table = t; answer = A.Refused 33 })
+    (record { table = t; answer = Err CapacityGone })
     (record {
       table = placed t l n p (lowest_free (used t)) (given_of t p) time timeout;
-      answer = A.Accepted (given_of t p);
+      answer = Ok (given_of t p);
     }))
-    (record { table = t; answer = A.Refused (ask_refusal_of t.masks t.numbers t.places l n p time) })
 
 -- ---- reply and cancel
 
@@ -200,44 +192,52 @@ freed t s =
       times = t.times;
     }
 
+-- the ends of the request in slot s
+abbrev pub front_end : Table → ℕ → FrontEnd
+front_end t s = record { link = get_or t.places s 0; number = record { 0 = get_or t.numbers s (pos 0) } }
+
+abbrev pub publisher_end : Table → ℕ → PublisherEnd
+publisher_end t s =
+    record { publisher = get_or t.places (64 + s) 0; number = record { 0 = get_or t.numbers (64 + s) (pos 0) } }
+
 pub record Replied : Type 0 where
   pub table : Table
-  pub answer : ReplyAnswer
+  pub answer : Result FrontEnd Refusal
 
 abbrev pub reply_at : Table → ℕ → Replied
 reply_at t s =
     pick (leb 64 s)
-    (record { table = t; answer = R.Refused 34 })
-    (record { table = freed t s; answer = R.Front (get_or t.places s 0) (record { 0 = get_or t.numbers s (pos 0) }) })
+    (record { table = t; answer = Err NoSuchRequest })
+    (record { table = freed t s; answer = Ok (front_end t s) })
 
 -- 30, 12, 34; else the request in the slot that is found is freed, and its link and front number are the answer
 unfoldable pub reply_of : Table → ℕ → PublisherNumber → Replied
 reply_of t p n =
     first
-    ((no_publisher p, record { table = t; answer = R.Refused 30 })
-    ∷ (same n.0 (pos 0), record { table = t; answer = R.Refused 12 })
+    ((no_publisher p, record { table = t; answer = Err OutOfRange })
+    ∷ (same n.0 (pos 0), record { table = t; answer = Err NumberZero })
     ∷ [])
     (reply_at t (seek (is_number t.numbers n) (slots (mine t p))))
 
 pub record Cancelled : Type 0 where
   pub table : Table
-  pub answer : CancelAnswer
+  pub answer : Result PublisherEnd Refusal
 
 abbrev pub cancel_at : Table → ℕ → Cancelled
 cancel_at t s =
     pick (leb 64 s)
-    (record { table = t; answer = C.Refused 34 })
+    (record { table = t; answer = Err NoSuchRequest })
     (record {
       table = freed t s;
-      answer = C.Publisher (get_or t.places (64 + s) 0) (record { 0 = get_or t.numbers (64 + s) (pos 0) });
+      answer = Ok (publisher_end t s);
     })
 
 -- 30, 12, 34; else the request in the slot that is found is freed, and its publisher and publisher number are the answer
 unfoldable pub cancel_of : Table → ℕ → FrontNumber → Cancelled
 cancel_of t l n =
     first
-    ((no_link l, record { table = t; answer = C.Refused 30 })
-    ∷ (same n.0 (pos 0), record { table = t; answer = C.Refused 12 })
+    ((no_link l, record { table = t; answer = Err OutOfRange })
+    ∷ (same n.0 (pos 0), record { table = t; answer = Err NumberZero })
     ∷ [])
     (cancel_at t (seek (is_front t.numbers t.places l n) (slots (used t))))
 
@@ -266,30 +266,34 @@ unfoldable pub ends_of : List ℤ → List ℕ → ℕ → List ℕ → List ℤ
 ends_of ns ps base [] = []
 ends_of ns ps base (x ∷ xs) = pos (get_or ps (base + x % 64) 0) ∷ get_or ns (base + x % 64) (pos 0) ∷ ends_of ns ps base xs
 
--- a table without the requests in the slots of a mask: only masks and order change
-unfoldable pub struck : Table → ℕ → Table
-struck t mask =
+-- a table without the requests in the slots of a mask, where the used slots are those of a line, oldest accepted
+-- first: only masks and order change
+abbrev pub struck_from : Table → List ℕ → ℕ → Table
+struck_from t xs mask =
     record {
       masks = cut_all mask t.masks;
       numbers = t.numbers;
       places = t.places;
-      order = placed_anew (outside mask (line t)) 0 t.order;
+      order = placed_anew (outside mask xs) 0 t.order;
       times = t.times;
     }
 
+unfoldable pub struck : Table → ℕ → Table
+struck t mask = struck_from t (line t) mask
+
 pub record Dropped : Type 0 where
   pub table : Table
-  pub answer : DropAnswer
+  pub answer : Result ℕ Refusal
   pub slice : List ℤ
 
 -- the requests of a mask's slots are freed and their other ends written, if the slice has two numbers for each; else 16
 unfoldable pub drop_of : Table → ℕ → ℕ → List ℤ → Dropped
 drop_of t mask base out =
     pick (ltb (length out) (2 * length (leaving t mask)))
-    (record { table = t; answer = D.Refused 16; slice = out })
+    (record { table = t; answer = Err BufferTooSmall; slice = out })
     (record {
       table = struck t mask;
-      answer = D.Count (length (leaving t mask));
+      answer = Ok (length (leaving t mask));
       slice = over_front (ends_of t.numbers t.places base (leaving t mask)) out;
     })
 
@@ -297,7 +301,7 @@ drop_of t mask base out =
 unfoldable pub gone_of : Table → Peer → List ℤ → Dropped
 gone_of t peer out =
     pick (no_peer peer)
-    (record { table = t; answer = D.Refused 30; slice = out })
+    (record { table = t; answer = Err OutOfRange; slice = out })
     (drop_of t (slots_of t.masks t.places peer) (other_at peer) out)
 
 -- ---- run out
@@ -311,9 +315,9 @@ abbrev pub due_of : List ℕ → List ℕ → ℕ → ℕ
 due_of ms ts now = gather (is_due ts now) (slots (get_or ms 0 0)) 0
 
 -- the times after a run-out: the time is seen, unless the call was refused
-abbrev pub seen_of : List ℕ → ℕ → DropAnswer → List ℕ
-seen_of ts now (D.Count k) = set ts 64 now
-seen_of ts now (D.Refused k) = ts
+abbrev pub seen_of : List ℕ → ℕ → Result ℕ Refusal → List ℕ
+seen_of ts now (Ok k) = set ts 64 now
+seen_of ts now (Err refusal) = ts
 
 -- what a run-out leaves: what freeing the slots leaves, and its time
 abbrev pub dropped_at : List ℕ → ℕ → Dropped → Dropped
@@ -329,6 +333,6 @@ dropped_at ts now r =
 unfoldable pub run_out_of : Table → ℕ → List ℤ → Dropped
 run_out_of t time out =
     pick (no_time time)
-    (record { table = t; answer = D.Refused 30; slice = out })
+    (record { table = t; answer = Err OutOfRange; slice = out })
     (dropped_at t.times (latest_of t.times time)
     (drop_of t (due_of t.masks t.times (latest_of t.times time)) (ends_at false) out))

@@ -1,6 +1,6 @@
 // The call that adds a request to the table: ask.
-// It never opens a socket, reads a clock or allocates: the table is lent, as the five arrays of crate `inflight`, and
-// changes where it stands. `ask` is the one call, total on any contents; its rules are in crate `inflight_rules`, its
+// It never opens a socket, reads a clock or allocates: the table of crate `inflight` is lent,
+// and changes where it stands. `ask` is the one call, total on any contents; its rules are in crate `inflight_rules`, its
 // deadline's in `inflight_times`.
 #![tactic(auto)]
 

@@ -4,12 +4,12 @@ use mathlib.Core.Path.{◌≡◌, refl, sym, ap, ◌∙◌, subst}
 use Prim.Native.Nat.{ℕ, ◌<◌}
 use mathlib.Core.Bool.{Bool, true, false}
 use mathlib.Core.List.{List, [], ◌∷◌}
-use lib.Dec.{eqb, leb}
+use lib.Dec.{leb}
 use lib.IntN.{ℤ, pos}
 use lib.Signed.{lt_z}
 use lib.ListN.{length, drop}
 use lib.Seq.{take-append_seam}
-use borrow.Author.Tests.{eqb-true, lt-leb}
+use borrow.Author.Tests.{lt-leb}
 use Rattle.wire.specs.Choice.{pick}
 use Rattle.inflight.specs.Requests.{Request, Key, Reply, Cancel, Closed, Lost}
 use Rattle.inflight.specs.declared.Peer.TheVariants as P
@@ -19,8 +19,6 @@ use Rattle.inflight.specs.Model as M
 use Rattle.inflight.specs.Calls.{Call, Heard, ask, reply, cancel, gone, run_out, model_heard, model_after, model_run}
 use Rattle.inflight.specs.declared.FrontNumber.{FrontNumber}
 use Rattle.inflight.specs.declared.PublisherNumber.{PublisherNumber}
-use Rattle.inflight.specs.declared.FreshAnswer.{FreshAnswer}
-use Rattle.inflight.specs.declared.FreshAnswer.TheVariants as F
 use Rattle.inflight.specs.Tables as N
 use Rattle.inflight_model.proofs.Capacity.{accepts, bounded-space}
 use Rattle.inflight_model.proofs.Invariant.{Invariant, inv-call, inv-empty}
@@ -29,6 +27,10 @@ use Rattle.inflight_claims.specs.Before.{Table, in_flight, model_of, store, tabl
 use Rattle.inflight_claims.specs.Before.{AsBefore}
 use Rattle.inflight_claims.specs.Before as T
 use Rattle.inflight_claims.proofs.ListClaim.{ready-ranged, all_firsts}
+use Rattle.std.specs.Prelude.{Result, Ok, Err, is_ok, ⊤}
+use Rattle.refusal.specs.declared.Refusal.{Refusal}
+use Rattle.refusal.specs.declared.Refusal.TheVariants.{OutOfRange, CapacityGone}
+use Rattle.inflight.specs.declared.Table as D
 
 -- a call on a table is the call on the model that the table reads as
 record AsModel (t : Table) (c : Call) : Type 0 where
@@ -47,47 +49,38 @@ model_of-pick true t m = model_of-store t m
 model_of-pick false t m = refl
 
 -- where an ask that the model accepts finds a place, asks are refused as the model refuses them
-place : (a b : ℕ) → b < a → ◌≡◌ {A = ℕ} (pick (leb a b) 33 0) 0
+place : (a b : ℕ) → b < a → ◌≡◌ {A = Result ⊤ Refusal} (pick (leb a b) (Err CapacityGone) (Ok tt)) (Ok tt)
 place a b h = rw (lt-leb a b h)
 
 module _ (t : Table) (l : ℕ) (n : FrontNumber) (p time timeout : ℕ)
-    (room : M.ask_refusal (model_of t) l n p time ≡ 0 → length (in_flight t) < 64) where
-  refusal-same : T.ask_refusal_of t l n p time ≡ M.ask_refusal (model_of t) l n p time
-  unfolding T.ask_refusal_of
-  refusal-same = go (eqb (M.ask_refusal (model_of t) l n p time) 0) refl
+    (room : M.check_ask (model_of t) l n p time ≡ Ok tt → length (in_flight t) < 64) where
+  refusal-same : T.check_ask_of t l n p time ≡ M.check_ask (model_of t) l n p time
+  unfolding T.check_ask_of
+  refusal-same = go (M.check_ask (model_of t) l n p time) refl
     where
-      go : (y : Bool) → eqb (M.ask_refusal (model_of t) l n p time) 0 ≡ y
-          → T.ask_refusal_of t l n p time ≡ M.ask_refusal (model_of t) l n p time
-      go true e = let z = eqb-true (M.ask_refusal (model_of t) l n p time) 0 e in rw e (place _ _ (room z) ∙ sym z)
-      go false e = rw e
+      go : (y : Result ⊤ Refusal) → M.check_ask (model_of t) l n p time ≡ y
+          → T.check_ask_of t l n p time ≡ M.check_ask (model_of t) l n p time
+      go (Ok x) e = rw e (place _ _ (room e))
+      go (Err x) e = rw e
 
   ask-same : AsModel t (ask l n p time timeout)
   unfolding T.ask_of M.ask M.ask_answer
-  ask-same = go (eqb (M.ask_refusal (model_of t) l n p time) 0) refl
-    where
-      go : (y : Bool) → eqb (M.ask_refusal (model_of t) l n p time) 0 ≡ y → AsModel t (ask l n p time timeout)
-      go true e =
-          let q : (T.ask_of t l n p time timeout).table ≡ store t (M.accept (model_of t) l n p time timeout) = rw (refusal-same, e) in
-          let s : M.ask (model_of t) l n p time timeout ≡ M.accept (model_of t) l n p time timeout = rw e in
-          record {
-            answer = rw (refusal-same, e);
-            table = ap model_of q ∙ model_of-store t (M.accept (model_of t) l n p time timeout) ∙ sym s;
-          }
-      go false e =
-          let q : (T.ask_of t l n p time timeout).table ≡ t = rw (refusal-same, e) in
-          let s : M.ask (model_of t) l n p time timeout ≡ model_of t = rw e in
-          record { answer = rw (refusal-same, e); table = ap model_of q ∙ sym s }
+  ask-same =
+      record {
+        answer = rw refusal-same;
+        table = model_of-pick (is_ok (T.check_ask_of t l n p time)) t (M.accept (model_of t) l n p time timeout) ∙ rw refusal-same;
+      }
 
 -- reply and cancel, closed and lost, over the key
 taken-same : (t : Table) (range : Bool) (n : ℤ) (k : Key)
     → model_of (T.taken_of t range n k) ≡ M.taken (model_of t) range n k
 unfolding T.taken_of M.taken
-taken-same t range n k = model_of-pick (eqb (M.take_refusal (model_of t) range n k) 0) t (M.remove (model_of t) k)
+taken-same t range n k = model_of-pick (is_ok (M.check_take (model_of t) range n k)) t (M.remove (model_of t) k)
 
 dropped-same : (t : Table) (range : Bool) (k : Key) (out : List ℤ)
     → model_of (T.drop_of t range k out).table ≡ M.dropped (model_of t) range k out
 unfolding T.drop_of M.dropped
-dropped-same t range k out = model_of-pick (eqb (M.drop_refusal (model_of t) range k out) 0) t (M.remove (model_of t) k)
+dropped-same t range k out = model_of-pick (is_ok (M.check_drop (model_of t) range k out)) t (M.remove (model_of t) k)
 
 -- run out, whose model after it is the old one where it is refused
 run-out-table : (t : Table) (time : ℕ) (out : List ℤ)
@@ -97,7 +90,7 @@ run-out-table t time out =
     model_of-pick no t (M.run_out (model_of t) time out) ∙ twice no
   where
     no : Bool
-    no = eqb (M.drop_refusal (model_of t) (M.no_time time) (M.run_out_key (model_of t) time) out) 0
+    no = is_ok (M.check_drop (model_of t) (M.no_time time) (M.run_out_key (model_of t) time) out)
 
     after : Model
     after =
@@ -145,13 +138,13 @@ fresh-model first h =
     let q : (T.fresh_of first).table ≡ T.empty_table first = rw h in
     ap model_of q
 
-fresh-same : (t : N.Table) (first : PublisherNumber) → (N.fresh_of t first).answer ≡ (T.fresh_of first).answer
+fresh-same : (t : D.Table) (first : PublisherNumber) → (N.fresh_of t first).answer ≡ (T.fresh_of first).answer
 unfolding N.fresh_of N.fresh_answer T.fresh_of
 fresh-same t first = go (lt_z first.0 (pos 1))
   where
-    go : (b : Bool) → pick {A = FreshAnswer} b (F.Refused 30) F.Ready
-        ≡ (pick {A = T.Started} b (record { table = T.empty_table (record { 0 = pos 1 }); answer = F.Refused 30 })
-        (record { table = T.empty_table first; answer = F.Ready })).answer
+    go : (b : Bool) → pick {A = Result ⊤ Refusal} b (Err OutOfRange) (Ok tt)
+        ≡ (pick {A = T.Started} b (record { table = T.empty_table (record { 0 = pos 1 }); answer = Err OutOfRange })
+        (record { table = T.empty_table first; answer = Ok tt })).answer
     go true = refl
     go false = refl
 

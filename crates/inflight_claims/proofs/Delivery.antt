@@ -13,7 +13,7 @@ use borrow.Author.Tests.{eqb-true, eqb-false, eq-eqb, ne_eqb, lt-leb, le-ltb}
 use Rattle.wire.specs.Choice.{pick}
 use Rattle.inflight.specs.Numbers.{same}
 use Rattle.inflight.specs.Matching.{matches, matching, without, blank}
-use Rattle.inflight.specs.Model.{Model, ask_refusal, take_refusal, reply_answer, matched, given, deadline_at, entry}
+use Rattle.inflight.specs.Model.{Model, check_ask, check_take, reply_answer, matched, given, deadline_at, entry}
 use Rattle.inflight.specs.Model as M
 use Rattle.inflight.specs.Tables.{fresh_of}
 use Rattle.inflight.specs.Calls.{Call, ask, reply, run_out, asked, replied, model_heard, model_after, model_at}
@@ -22,8 +22,6 @@ use Rattle.inflight.specs.declared.PublisherNumber.{PublisherNumber}
 use Rattle.inflight.specs.Requests.{Request}
 use Rattle.inflight.specs.Requests.{Key}
 use Rattle.inflight.specs.Requests.{Reply}
-use Rattle.inflight.specs.declared.AskAnswer.TheVariants as A
-use Rattle.inflight.specs.declared.ReplyAnswer.TheVariants as R
 use Rattle.inflight.proofs.NumberLaws.{same_true, eq-same, ne_same}
 use Rattle.inflight_claims.specs.Delivery.{Answers, table_answers, latest_seen, frees, freed_since, ask_for}
 use Rattle.inflight_claims.specs.Delivery.{deadline_after, Carried, told, round, steps, passed, stepped, request}
@@ -37,6 +35,11 @@ use Rattle.inflight_model.proofs.Invariant.{Ranged, inv_at, new-number, both}
 use Rattle.inflight_claims.proofs.ListClaim.{answer-accepted}
 use Rattle.inflight_tied.proofs.Simulated.{heard-at, fresh-good, fresh-model}
 use Rattle.inflight_claims.proofs.Numbering.{numbered-at, stepped-more, stepped-ask, right-round, steps-ranged, not-zero}
+use Rattle.std.specs.Prelude.{Result, Ok, Err, ⊤}
+use Rattle.std.specs.Result.{result_and}
+use Rattle.refusal.specs.declared.Refusal.{Refusal}
+use Rattle.inflight.specs.declared.FrontEnd.{FrontEnd}
+use Rattle.refusal.specs.declared.Refusal.TheVariants.{OutOfRange, NumberZero, NoSuchRequest}
 
 -- ---- two places of a list
 
@@ -57,45 +60,51 @@ splits (x ∷ b) (y ∷ a) c d r s h = ⊎_elim (λ q. inl (cc)) (λ q. inr (⊎
     two : Behind a d s b c r → Behind (y ∷ a) d s (x ∷ b) c r
     two k = let p = k.place in record { mid = k.mid; place = cc; rest = k.rest }
 
--- ---- what a reply's refusal number says
+-- ---- what a reply's check says
 
-rows : (a b c : Bool) → ◌≡◌ {A = ℕ} (pick a 30 (pick b 12 (pick c 34 0))) 0 → (a ≡ false) × (b ≡ false) × (c ≡ false)
-rows true b c h = absurd (omega arith)
-rows false true c h = absurd (omega arith)
-rows false false true h = absurd (omega arith)
+rows : (a b c : Bool)
+    → ◌≡◌ {A = Result ⊤ Refusal} (pick a (Err OutOfRange) (pick b (Err NumberZero) (pick c (Err NoSuchRequest) (Ok tt)))) (Ok tt)
+    → (a ≡ false) × (b ≡ false) × (c ≡ false)
+rows true b c h = cc
+rows false true c h = cc
+rows false false true h = cc
 rows false false false h = (refl, refl, refl)
 
 module _ (m : Model) (p : ℕ) (x : PublisherNumber) where
-  take-rows : take_refusal m (M.no_publisher p) x.0 (Reply p x) ≡ 0
+  take-rows : check_take m (M.no_publisher p) x.0 (Reply p x) ≡ Ok tt
       → (leb 8 p ≡ false) × (same x.0 (pos 0) ≡ false) × (eqb (length (matching (Reply p x) m.requests)) 0 ≡ false)
-  unfolding take_refusal
+  unfolding check_take
   take-rows e = rows (leb 8 p) (same x.0 (pos 0)) (eqb (length (matching (Reply p x) m.requests)) 0) e
 
   take_no : leb 8 p ≡ false → same x.0 (pos 0) ≡ false → eqb (length (matching (Reply p x) m.requests)) 0 ≡ true
-      → reply_answer m p x ≡ R.Refused 34
-  unfolding take_refusal reply_answer
+      → reply_answer m p x ≡ Err NoSuchRequest
+  unfolding check_take reply_answer
   take_no a b c = rw (a, b, c)
 
   take-zero : leb 8 p ≡ false → same x.0 (pos 0) ≡ false → eqb (length (matching (Reply p x) m.requests)) 0 ≡ false
-      → take_refusal m (M.no_publisher p) x.0 (Reply p x) ≡ 0
-  unfolding take_refusal
+      → check_take m (M.no_publisher p) x.0 (Reply p x) ≡ Ok tt
+  unfolding check_take
   take-zero a b c = rw (a, b, c)
 
-  answer-front : take_refusal m (M.no_publisher p) x.0 (Reply p x) ≡ 0
-      → reply_answer m p x ≡ R.Front (matched m (Reply p x)).link (matched m (Reply p x)).front
+  answer-front : check_take m (M.no_publisher p) x.0 (Reply p x) ≡ Ok tt
+      → reply_answer m p x ≡ Ok (record { link = (matched m (Reply p x)).link; number = (matched m (Reply p x)).front })
   unfolding reply_answer
-  answer-front e = rw (eq-eqb (take_refusal m (M.no_publisher p) x.0 (Reply p x)) 0 e)
+  answer-front e = rw e
 
-  front-answer : (l : ℕ) (f : FrontNumber) → reply_answer m p x ≡ R.Front l f
-      → (take_refusal m (M.no_publisher p) x.0 (Reply p x) ≡ 0) × ((matched m (Reply p x)).link ≡ l) × ((matched m (Reply p x)).front ≡ f)
+  front-answer : (l : ℕ) (f : FrontNumber) → reply_answer m p x ≡ Ok (record { link = l; number = f })
+      → (check_take m (M.no_publisher p) x.0 (Reply p x) ≡ Ok tt) × ((matched m (Reply p x)).link ≡ l) × ((matched m (Reply p x)).front ≡ f)
   unfolding reply_answer
-  front-answer l f = go (eqb (take_refusal m (M.no_publisher p) x.0 (Reply p x)) 0) refl
+  front-answer l f = go (check_take m (M.no_publisher p) x.0 (Reply p x)) refl
     where
-      go : (y : Bool) → eqb (take_refusal m (M.no_publisher p) x.0 (Reply p x)) 0 ≡ y
-          → pick y (R.Front (matched m (Reply p x)).link (matched m (Reply p x)).front) (R.Refused (take_refusal m (M.no_publisher p) x.0 (Reply p x))) ≡ R.Front l f
-          → (take_refusal m (M.no_publisher p) x.0 (Reply p x) ≡ 0) × ((matched m (Reply p x)).link ≡ l) × ((matched m (Reply p x)).front ≡ f)
-      go true e h = (eqb-true (take_refusal m (M.no_publisher p) x.0 (Reply p x)) 0 e, (cc), (cc))
-      go false e h = let z : ◌≡◌ {A = ℕ} 0 1 = cc in absurd (omega arith)
+      go : (y : Result ⊤ Refusal) → check_take m (M.no_publisher p) x.0 (Reply p x) ≡ y
+          → ◌≡◌ {A = Result FrontEnd Refusal}
+          (result_and y (Ok (record { link = (matched m (Reply p x)).link; number = (matched m (Reply p x)).front })))
+          (Ok (record { link = l; number = f }))
+          → (check_take m (M.no_publisher p) x.0 (Reply p x) ≡ Ok tt) × ((matched m (Reply p x)).link ≡ l) × ((matched m (Reply p x)).front ≡ f)
+      go (Ok o) e h =
+          let k : ◌≡◌ {A = FrontEnd} (record { link = (matched m (Reply p x)).link; number = (matched m (Reply p x)).front }) (record { link = l; number = f }) = cc in
+          (e, ap (λ (z : FrontEnd). z.link) k, ap (λ (z : FrontEnd). z.number) k)
+      go (Err o) e h = cc
 
 matches-own : (e : Request) (p : ℕ) (x : PublisherNumber) → e.publisher ≡ p → e.number ≡ x → matches (Reply p x) e ≡ true
 unfolding matches
@@ -139,12 +148,12 @@ module _ (first : PublisherNumber) (ranged : Ranged first) where
   at cs = model_at (M.empty first) cs
 
   -- an accepted ask's request is in flight after it
-  given-in : (b : List Call) (e : Request) (t u : ℕ) → ans b (ask_for e t u) ≡ asked (A.Accepted e.number)
+  given-in : (b : List Call) (e : Request) (t u : ℕ) → ans b (ask_for e t u) ≡ asked (Ok e.number)
       → e.deadline ≡ deadline_after ans b t u → In e (at (b ++ ask_for e t u ∷ [])).requests
   unfolding M.ask M.accept
   given-in b e t u h due =
       let m = at b in
-      let a : M.ask_answer m e.link e.front e.publisher t ≡ A.Accepted e.number = cc in
+      let a : M.ask_answer m e.link e.front e.publisher t ≡ Ok e.number = cc in
       let k = answer-accepted m e.link e.front e.publisher t e.number a in
       let E : Request = entry m e.link e.front e.publisher t u in
       let d : E.deadline ≡ e.deadline =
@@ -154,7 +163,7 @@ module _ (first : PublisherNumber) (ranged : Ranged first) where
       (is-request E e.link e.front e.publisher e.number e.deadline refl refl refl k.1 d)
       (in-last m.requests E) in
       let q : M.ask m e.link e.front e.publisher t u ≡ M.accept m e.link e.front e.publisher t u =
-      rw (eq-eqb (ask_refusal m e.link e.front e.publisher t) 0 k.0) in
+      rw k.0 in
       subst (λ (x : Model). In e x.requests) (sym (at_snoc b (ask_for e t u) (M.empty first) ∙ q)) i
 
   carried-in : (cs : List Call) (e : Request) → Carried ans cs e → In e (at cs).requests
@@ -166,10 +175,10 @@ module _ (first : PublisherNumber) (ranged : Ranged first) where
 
   -- a number in flight is not given
   never-again : (b : List Call) (e d : Request) (v w : ℕ) → In e (at b).requests
-      → ans b (ask_for d v w) ≡ asked (A.Accepted d.number) → d.publisher ≡ e.publisher → d.number ≡ e.number → ⊥
+      → ans b (ask_for d v w) ≡ asked (Ok d.number) → d.publisher ≡ e.publisher → d.number ≡ e.number → ⊥
   never-again b e d v w i h pe ne =
       let m = at b in
-      let a : M.ask_answer m d.link d.front d.publisher v ≡ A.Accepted d.number = cc in
+      let a : M.ask_answer m d.link d.front d.publisher v ≡ Ok d.number = cc in
       let k = answer-accepted m d.link d.front d.publisher v d.number a in
       let n = new-number m d.link d.front d.publisher v (inv_at first ranged b) k.0 in
       in_some e (matching (Reply d.publisher (given m d.publisher)) m.requests) (in-matching (Reply d.publisher (given m d.publisher)) e m.requests i (matches-own e d.publisher (given m d.publisher) (sym pe) (sym ne ∙ sym k.1))) n
@@ -177,7 +186,7 @@ module _ (first : PublisherNumber) (ranged : Ranged first) where
   -- an ask still in flight has no later ask with its publisher and number
   none-behind : (cs : List Call) (e : Request) (c : Carried ans cs e) (d : Request) (v w : ℕ) (b s : List Call)
       → Behind c.before (ask_for e c.time c.timeout) c.since b (ask_for d v w) s
-      → ans b (ask_for d v w) ≡ asked (A.Accepted d.number) → d.publisher ≡ e.publisher → d.number ≡ e.number → ⊥
+      → ans b (ask_for d v w) ≡ asked (Ok d.number) → d.publisher ≡ e.publisher → d.number ≡ e.number → ⊥
   none-behind cs e c d v w b s k h pe ne =
       let call : Call = ask_for e c.time c.timeout in
       let f : freed_since ans e (c.before ++ call ∷ []) (k.mid ++ ask_for d v w ∷ s) ≡ false =
@@ -190,13 +199,13 @@ module _ (first : PublisherNumber) (ranged : Ranged first) where
       (subst (λ (x : List Call). In e (at x).requests) (shift c.before call k.mid ∙ sym k.place) i) h pe ne
 
   ask-range : (b : List Call) (l : ℕ) (f : FrontNumber) (p t u : ℕ) (x : PublisherNumber)
-      → ans b (ask l f p t u) ≡ asked (A.Accepted x) → p < 8
+      → ans b (ask l f p t u) ≡ asked (Ok x) → p < 8
   ask-range b l f p t u x h =
-      let a : M.ask_answer (at b) l f p t ≡ A.Accepted x = cc in
+      let a : M.ask_answer (at b) l f p t ≡ Ok x = cc in
       (accepts (at b) l f p t (answer-accepted (at b) l f p t x a).0).range
 
   again-at : (b s : List Call) (l : ℕ) (f : FrontNumber) (t u k : ℕ) (g : FrontNumber) (v w p : ℕ) (x : PublisherNumber)
-      → ans b (ask l f p t u) ≡ asked (A.Accepted x) → ans (b ++ ask l f p t u ∷ s) (ask k g p v w) ≡ asked (A.Accepted x)
+      → ans b (ask l f p t u) ≡ asked (Ok x) → ans (b ++ ask l f p t u ∷ s) (ask k g p v w) ≡ asked (Ok x)
       → stepped ans first p (b ++ ask l f p t u ∷ []) + round
       ≤ stepped ans first p ((b ++ ask l f p t u ∷ s) ++ ask k g p v w ∷ [])
   again-at b s l f t u k g v w p x h q =
@@ -216,17 +225,17 @@ module _ (first : PublisherNumber) (ranged : Ranged first) where
       omega arith
 
   again-of : (cs : List Call) (e d : Request) (t u v w : ℕ) (b s : List Call) → cs ≡ b ++ ask_for e t u ∷ s
-      → ans b (ask_for e t u) ≡ asked (A.Accepted e.number) → ans cs (ask_for d v w) ≡ asked (A.Accepted d.number)
+      → ans b (ask_for e t u) ≡ asked (Ok e.number) → ans cs (ask_for d v w) ≡ asked (Ok d.number)
       → d.publisher ≡ e.publisher → d.number ≡ e.number
       → stepped ans first e.publisher (b ++ ask_for e t u ∷ []) + round
       ≤ stepped ans first e.publisher (cs ++ ask_for d v w ∷ [])
   again-of cs e d t u v w b s q h k pe ne =
       let asks : (ℕ → Call) = λ p. ask d.link d.front p v w in
-      let g : ans (b ++ ask_for e t u ∷ s) (asks e.publisher) ≡ asked (A.Accepted e.number) =
+      let g : ans (b ++ ask_for e t u ∷ s) (asks e.publisher) ≡ asked (Ok e.number) =
       sym (ap (λ (x : List Call). ans x (asks e.publisher)) q)
       ∙ sym (ap (λ (p : ℕ). ans cs (asks p)) pe)
       ∙ k
-      ∙ ap (λ (x : PublisherNumber). asked (A.Accepted x)) ne in
+      ∙ ap (λ (x : PublisherNumber). asked (Ok x)) ne in
       let r = again-at b s e.link e.front t u d.link d.front v w e.publisher e.number h g in
       let m : stepped ans first e.publisher ((b ++ ask_for e t u ∷ s) ++ asks e.publisher ∷ [])
       ≡ stepped ans first e.publisher (cs ++ ask_for d v w ∷ []) =
@@ -247,7 +256,7 @@ module _ (first : PublisherNumber) (ranged : Ranged first) where
 
   only_of : (cs : List Call) (e : Request) (c : Carried ans cs e) (d : Request) (v w : ℕ) (b s : List Call)
       → cs ≡ b ++ ask_for d v w ∷ s
-      → ans b (ask_for d v w) ≡ asked (A.Accepted d.number) → d.publisher ≡ e.publisher → d.number ≡ e.number
+      → ans b (ask_for d v w) ≡ asked (Ok d.number) → d.publisher ≡ e.publisher → d.number ≡ e.number
       → stepped ans first e.publisher cs < stepped ans first e.publisher (b ++ ask_for d v w ∷ []) + round
       → b ≡ c.before
   only_of cs e c d v w b s q h pe ne less =
@@ -274,11 +283,11 @@ module _ (first : PublisherNumber) (ranged : Ranged first) where
           (stepped-more ans first e.publisher (c.before ++ call ∷ []) c.since) in
           omega arith
 
-  delivered-of : (cs : List Call) (l : ℕ) (f : FrontNumber) (p : ℕ) (x : PublisherNumber) → ans cs (reply p x) ≡ replied (R.Front l f)
+  delivered-of : (cs : List Call) (l : ℕ) (f : FrontNumber) (p : ℕ) (x : PublisherNumber) → ans cs (reply p x) ≡ replied (Ok (record { link = l; number = f }))
       → (d : ℕ) × Carried ans cs (request l f p x d)
   delivered-of cs l f p x h =
       let m = at cs in
-      let a : reply_answer m p x ≡ R.Front l f = cc in
+      let a : reply_answer m p x ≡ Ok (record { link = l; number = f }) = cc in
       let k = front-answer m p x l f a in
       let t = take-rows m p x k.0 in
       let i = matching-in (Reply p x) (matched m (Reply p x)) m.requests (head_in (matching (Reply p x) m.requests) blank (eqb-false (length (matching (Reply p x) m.requests)) 0 t.2)) in
@@ -291,7 +300,7 @@ module _ (first : PublisherNumber) (ranged : Ranged first) where
       )
 
   carried_of : (cs : List Call) (l : ℕ) (f : FrontNumber) (p : ℕ) (x : PublisherNumber) (d : ℕ)
-      → Carried ans cs (request l f p x d) → ans cs (reply p x) ≡ replied (R.Front l f)
+      → Carried ans cs (request l f p x d) → ans cs (reply p x) ≡ replied (Ok (record { link = l; number = f }))
   carried_of cs l f p x d c =
       let m = at cs in
       let e : Request = request l f p x d in
@@ -300,26 +309,26 @@ module _ (first : PublisherNumber) (ranged : Ranged first) where
       let i = in-matching (Reply p x) e m.requests (carried-in cs e c) (matches-own e p x refl refl) in
       let s : matched m (Reply p x) ≡ e = in-single e (matching (Reply p x) m.requests) blank i ((inv_at first ranged cs).once p x) in
       let z = take-zero m p x (lt-leb 8 p r) (not-zero x g) (ne_eqb (length (matching (Reply p x) m.requests)) 0 (in_some e (matching (Reply p x) m.requests) i)) in
-      ap replied (answer-front m p x z ∙ ap (λ (d : Request). R.Front d.link d.front) s)
+      ap replied (answer-front m p x z ∙ ap (λ (d : Request). Ok (record { link = d.link; number = d.front })) s)
 
-  twice_of : (cs : List Call) (l : ℕ) (f : FrontNumber) (p : ℕ) (x : PublisherNumber) → ans cs (reply p x) ≡ replied (R.Front l f)
-      → ans (cs ++ reply p x ∷ []) (reply p x) ≡ replied (R.Refused 34)
+  twice_of : (cs : List Call) (l : ℕ) (f : FrontNumber) (p : ℕ) (x : PublisherNumber) → ans cs (reply p x) ≡ replied (Ok (record { link = l; number = f }))
+      → ans (cs ++ reply p x ∷ []) (reply p x) ≡ replied (Err NoSuchRequest)
   unfolding M.taken
   twice_of cs l f p x h =
       let m = at cs in
-      let a : reply_answer m p x ≡ R.Front l f = cc in
+      let a : reply_answer m p x ≡ Ok (record { link = l; number = f }) = cc in
       let k = front-answer m p x l f a in
       let t = take-rows m p x k.0 in
-      let q : model_after m (reply p x) ≡ M.remove m (Reply p x) = rw (eq-eqb (take_refusal m (M.no_publisher p) x.0 (Reply p x)) 0 k.0) in
+      let q : model_after m (reply p x) ≡ M.remove m (Reply p x) = rw k.0 in
       let n = take_no (M.remove m (Reply p x)) p x t.0 t.1 (eq-eqb (length (matching (Reply p x) (without (Reply p x) m.requests))) 0 (none_left (Reply p x) m.requests)) in
       ap (λ (b : Model). replied (reply_answer b p x)) (at_snoc cs (reply p x) (M.empty first) ∙ q) ∙ ap replied n
 
   nowhere-of : (cs : List Call) (p : ℕ) (x : PublisherNumber) → p < 8 → (x.0 ≡ pos 0 → ⊥)
       → ((l : ℕ) (f : FrontNumber) (d : ℕ) → Carried ans cs (request l f p x d) → ⊥)
-      → ans cs (reply p x) ≡ replied (R.Refused 34)
+      → ans cs (reply p x) ≡ replied (Err NoSuchRequest)
   nowhere-of cs p x r n h = go (eqb (length (matching (Reply p x) (at cs).requests)) 0) refl
     where
-      go : (y : Bool) → eqb (length (matching (Reply p x) (at cs).requests)) 0 ≡ y → ans cs (reply p x) ≡ replied (R.Refused 34)
+      go : (y : Bool) → eqb (length (matching (Reply p x) (at cs).requests)) 0 ≡ y → ans cs (reply p x) ≡ replied (Err NoSuchRequest)
       go true e = ap replied (take_no (at cs) p x (lt-leb 8 p r) (ne_same x.0 (pos 0) n) e)
       go false e =
           let m = at cs in
@@ -335,10 +344,10 @@ module _ (first : PublisherNumber) (ranged : Ranged first) where
   same_place (c ∷ b) e d t u v w r s h = same_place b e d t u v w r s (cc)
 
   overdue-of : (cs : List Call) (e : Request) (t u : ℕ) (b s : List Call) → cs ≡ b ++ ask_for e t u ∷ s
-      → ans b (ask_for e t u) ≡ asked (A.Accepted e.number) → e.deadline ≡ deadline_after ans b t u
+      → ans b (ask_for e t u) ≡ asked (Ok e.number) → e.deadline ≡ deadline_after ans b t u
       → freed_since ans e (b ++ ask_for e t u ∷ []) s ≡ true
       → stepped ans first e.publisher cs < stepped ans first e.publisher (b ++ ask_for e t u ∷ []) + round
-      → ans cs (reply e.publisher e.number) ≡ replied (R.Refused 34)
+      → ans cs (reply e.publisher e.number) ≡ replied (Err NoSuchRequest)
   overdue-of cs e t u b s q h due freed less =
       let p = e.publisher in
       let x = e.number in

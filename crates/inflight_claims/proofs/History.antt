@@ -7,26 +7,24 @@ use Prim.Native.Nat.{ℕ, max}
 use native.Mathlib.Omega.{arith}
 use mathlib.Core.Bool.{Bool, true, false, not, ◌&&◌, ◌||◌, false≢true}
 use mathlib.Core.List.{List, [], ◌∷◌, ◌++◌, append_assoc, append-nil}
-use lib.Dec.{eqb}
-use lib.IntN.{ℤ}
 use Rattle.wire.specs.Choice.{pick}
 use Rattle.inflight.specs.Matching.{matches, without}
-use Rattle.inflight.specs.Model.{Model, ask_refusal, take_refusal, drop_refusal, deadline_at, entry}
+use Rattle.inflight.specs.Model.{Model, check_ask, check_take, check_drop, deadline_at, entry}
 use Rattle.inflight.specs.Model as M
-use Rattle.inflight.specs.Calls.{Call, ask, reply, cancel, gone, run_out, asked, replied, cancelled, dropped}
+use Rattle.inflight.specs.Calls.{Call, ask, reply, cancel, gone, run_out, asked}
 use Rattle.inflight.specs.Calls.{model_heard, model_after, model_at}
 use Rattle.inflight.specs.declared.FrontNumber.{FrontNumber}
 use Rattle.inflight.specs.declared.PublisherNumber.{PublisherNumber}
 use Rattle.inflight.specs.Requests.{Request}
 use Rattle.inflight.specs.Requests.{Key}
 use Rattle.inflight.specs.Requests.{Reply, Cancel, key_of}
-use Rattle.inflight.specs.declared.AskAnswer.TheVariants as A
-use Rattle.inflight.specs.declared.ReplyAnswer.TheVariants as R
-use Rattle.inflight.specs.declared.CancelAnswer.TheVariants as C
-use Rattle.inflight.specs.declared.DropAnswer.TheVariants as D
 use Rattle.inflight_claims.specs.Delivery.{Answers, refused, time_of, seen_from, latest_seen, frees, freed_since}
 use Rattle.inflight_claims.specs.Delivery.{ask_for, deadline_after, Carried}
 use Rattle.inflight_claims.proofs.Membership.{In, in_left, in-snoc, in_without, without_in}
+use Rattle.std.specs.Prelude.{Result, Ok, Err, is_ok, is_err, ⊤}
+use Rattle.std.specs.Result.{result_and}
+use Rattle.refusal.specs.declared.Refusal.{Refusal}
+use Rattle.inflight.proofs.CheckLaws.{passes}
 
 -- the model's answers
 abbrev pub model_answers : PublisherNumber → Answers
@@ -43,27 +41,10 @@ at_snoc a c m = at-append a (c ∷ []) m
 
 -- ---- one call
 
-module _ (y : Bool) (n : ℕ) where
-  reply-refused : (l : ℕ) (f : FrontNumber) → refused (replied (pick y (R.Front l f) (R.Refused n))) ≡ not y
-  reply-refused l f = go y
-    where
-      go : (t : Bool) → refused (replied (pick t (R.Front l f) (R.Refused n))) ≡ not t
-      go true = refl
-      go false = refl
-
-  cancel-refused : (p : ℕ) (x : PublisherNumber) → refused (cancelled (pick y (C.Publisher p x) (C.Refused n))) ≡ not y
-  cancel-refused p x = go y
-    where
-      go : (t : Bool) → refused (cancelled (pick t (C.Publisher p x) (C.Refused n))) ≡ not t
-      go true = refl
-      go false = refl
-
-  drop-refused : (k : ℕ) (out : List ℤ) → refused (dropped (pick y (D.Count k) (D.Refused n)) out) ≡ not y
-  drop-refused k out = go y
-    where
-      go : (t : Bool) → refused (dropped (pick t (D.Count k) (D.Refused n)) out) ≡ not t
-      go true = refl
-      go false = refl
+-- an answer after a check is a refusal where the check refuses
+and-refused : {T : Type 0} (r : Result ⊤ Refusal) (x : T) → is_err (result_and r (Ok x)) ≡ not (is_ok r)
+and-refused (Ok y) x = refl
+and-refused (Err e) x = refl
 
 -- reply, cancel, gone and run out, over the key: y says that the call is not refused, r that it is; after it the time
 -- `now` was seen
@@ -87,13 +68,13 @@ record Gives (m : Model) (c : Call) (e : Request) : Type 0 where
   time : ℕ
   timeout : ℕ
   is : c ≡ ask_for e time timeout
-  accepted : model_heard m (ask_for e time timeout) ≡ asked (A.Accepted e.number)
+  accepted : model_heard m (ask_for e time timeout) ≡ asked (Ok e.number)
   deadline : e.deadline ≡ deadline_at (max m.seen time) timeout
 
 module _ (m : Model) (l : ℕ) (n : FrontNumber) (p time timeout : ℕ) (e : Request) where
   keep-ask : In e m.requests → In e (M.ask m l n p time timeout).requests
   unfolding M.ask M.accept
-  keep-ask i = go (eqb (ask_refusal m l n p time) 0)
+  keep-ask i = go (is_ok (check_ask m l n p time))
     where
       go : (y : Bool) → In e (pick y (M.accept m l n p time timeout) m).requests
       go true = in_left e m.requests (entry m l n p time timeout ∷ []) i
@@ -102,9 +83,9 @@ module _ (m : Model) (l : ℕ) (n : FrontNumber) (p time timeout : ℕ) (e : Req
   came-ask : In e (M.ask m l n p time timeout).requests
       → In e m.requests ⊎ Gives m (ask l n p time timeout) e
   unfolding M.ask M.accept M.ask_answer
-  came-ask = go (eqb (ask_refusal m l n p time) 0) refl
+  came-ask = go (is_ok (check_ask m l n p time)) refl
     where
-      go : (y : Bool) → eqb (ask_refusal m l n p time) 0 ≡ y
+      go : (y : Bool) → is_ok (check_ask m l n p time) ≡ y
           → In e (pick y (M.accept m l n p time timeout) m).requests
           → In e m.requests ⊎ Gives m (ask l n p time timeout) e
       go true q i =
@@ -113,7 +94,7 @@ module _ (m : Model) (l : ℕ) (n : FrontNumber) (p time timeout : ℕ) (e : Req
           own : entry m l n p time timeout ≡ e → Gives m (ask l n p time timeout) e
           own h =
               subst (λ (d : Request). Gives m (ask l n p time timeout) d) h
-              (record { time = time; timeout = timeout; is = refl; accepted = rw q; deadline = refl })
+              (record { time = time; timeout = timeout; is = refl; accepted = rw (passes (check_ask m l n p time) q); deadline = refl })
       go false q i = inl i
 
 keep : (m : Model) (c : Call) (e : Request) → In e m.requests → frees m.seen e c (model_heard m c) ≡ false
@@ -121,34 +102,34 @@ keep : (m : Model) (c : Call) (e : Request) → In e m.requests → frees m.seen
 unfolding frees M.taken M.dropped M.run_out M.reply_answer M.cancel_answer M.drop_answer
 keep m (ask l n p time timeout) e i f = keep-ask m l n p time timeout e i
 keep m (reply p n) e i f =
-    let y : Bool = eqb (take_refusal m (M.no_publisher p) n.0 (Reply p n)) 0 in
-    keep-pick m (Reply p n) m.seen e y _ (reply-refused y _ _ _) i f
+    let r = check_take m (M.no_publisher p) n.0 (Reply p n) in
+    keep-pick m (Reply p n) m.seen e (is_ok r) _ (and-refused r _) i f
 keep m (cancel l n) e i f =
-    let y : Bool = eqb (take_refusal m (M.no_link l) n.0 (Cancel l n)) 0 in
-    keep-pick m (Cancel l n) m.seen e y _ (cancel-refused y _ _ _) i f
+    let r = check_take m (M.no_link l) n.0 (Cancel l n) in
+    keep-pick m (Cancel l n) m.seen e (is_ok r) _ (and-refused r _) i f
 keep m (gone peer out) e i f =
-    let y : Bool = eqb (drop_refusal m (M.no_peer peer) (key_of peer) out) 0 in
-    keep-pick m (key_of peer) m.seen e y _ (drop-refused y _ _ _) i f
+    let r = check_drop m (M.no_peer peer) (key_of peer) out in
+    keep-pick m (key_of peer) m.seen e (is_ok r) _ (and-refused r _) i f
 keep m (run_out time out) e i f =
-    let y : Bool = eqb (drop_refusal m (M.no_time time) (M.run_out_key m time) out) 0 in
-    keep-pick m (M.run_out_key m time) (M.latest m time) e y _ (drop-refused y _ _ _) i f
+    let r = check_drop m (M.no_time time) (M.run_out_key m time) out in
+    keep-pick m (M.run_out_key m time) (M.latest m time) e (is_ok r) _ (and-refused r _) i f
 
 came : (m : Model) (c : Call) (e : Request) → In e (model_after m c).requests
     → (In e m.requests × (frees m.seen e c (model_heard m c) ≡ false)) ⊎ Gives m c e
 unfolding frees M.taken M.dropped M.run_out M.reply_answer M.cancel_answer M.drop_answer
 came m (ask l n p time timeout) e i = ⊎_elim (λ j. inl (j, refl)) (λ g. inr g) (came-ask m l n p time timeout e i)
 came m (reply p n) e i =
-    let y : Bool = eqb (take_refusal m (M.no_publisher p) n.0 (Reply p n)) 0 in
-    inl (came-pick m (Reply p n) m.seen e y _ (reply-refused y _ _ _) i)
+    let r = check_take m (M.no_publisher p) n.0 (Reply p n) in
+    inl (came-pick m (Reply p n) m.seen e (is_ok r) _ (and-refused r _) i)
 came m (cancel l n) e i =
-    let y : Bool = eqb (take_refusal m (M.no_link l) n.0 (Cancel l n)) 0 in
-    inl (came-pick m (Cancel l n) m.seen e y _ (cancel-refused y _ _ _) i)
+    let r = check_take m (M.no_link l) n.0 (Cancel l n) in
+    inl (came-pick m (Cancel l n) m.seen e (is_ok r) _ (and-refused r _) i)
 came m (gone peer out) e i =
-    let y : Bool = eqb (drop_refusal m (M.no_peer peer) (key_of peer) out) 0 in
-    inl (came-pick m (key_of peer) m.seen e y _ (drop-refused y _ _ _) i)
+    let r = check_drop m (M.no_peer peer) (key_of peer) out in
+    inl (came-pick m (key_of peer) m.seen e (is_ok r) _ (and-refused r _) i)
 came m (run_out time out) e i =
-    let y : Bool = eqb (drop_refusal m (M.no_time time) (M.run_out_key m time) out) 0 in
-    inl (came-pick m (M.run_out_key m time) (M.latest m time) e y _ (drop-refused y _ _ _) i)
+    let r = check_drop m (M.no_time time) (M.run_out_key m time) out in
+    inl (came-pick m (M.run_out_key m time) (M.latest m time) e (is_ok r) _ (and-refused r _) i)
 
 -- ---- the latest time
 
@@ -168,27 +149,23 @@ same-pick m k true false = omega arith
 same-pick m k false true = refl
 same-pick m k false false = omega arith
 
-ask-refused : (y : Bool) (n : ℕ) (x : PublisherNumber) → refused (asked (pick y (A.Accepted x) (A.Refused n))) ≡ not y
-ask-refused true n x = refl
-ask-refused false n x = refl
-
 seen_step : (m : Model) (c : Call)
     → (model_after m c).seen ≡ pick (refused (model_heard m c)) m.seen (max m.seen (time_of c))
 unfolding M.ask M.accept M.ask_answer M.taken M.dropped M.run_out M.drop_answer
 seen_step m (ask l n p time timeout) =
-    let y : Bool = eqb (ask_refusal m l n p time) 0 in
-    seen_pick m _ _ time y _ (ask-refused y _ _)
+    let r = check_ask m l n p time in
+    seen_pick m _ _ time (is_ok r) _ (and-refused r _)
 seen_step m (reply p n) =
-    same-pick m (Reply p n) (eqb (take_refusal m (M.no_publisher p) n.0 (Reply p n)) 0) (refused (model_heard m (reply p n)))
+    same-pick m (Reply p n) (is_ok (check_take m (M.no_publisher p) n.0 (Reply p n))) (refused (model_heard m (reply p n)))
 seen_step m (cancel l n) =
-    same-pick m (Cancel l n) (eqb (take_refusal m (M.no_link l) n.0 (Cancel l n)) 0)
+    same-pick m (Cancel l n) (is_ok (check_take m (M.no_link l) n.0 (Cancel l n)))
     (refused (model_heard m (cancel l n)))
 seen_step m (gone peer out) =
-    same-pick m (key_of peer) (eqb (drop_refusal m (M.no_peer peer) (key_of peer) out) 0)
+    same-pick m (key_of peer) (is_ok (check_drop m (M.no_peer peer) (key_of peer) out))
     (refused (model_heard m (gone peer out)))
 seen_step m (run_out time out) =
-    let y : Bool = eqb (drop_refusal m (M.no_time time) (M.run_out_key m time) out) 0 in
-    seen_pick m _ _ time y _ (drop-refused y _ _ _)
+    let r = check_drop m (M.no_time time) (M.run_out_key m time) out in
+    seen_pick m _ _ time (is_ok r) _ (and-refused r _)
 
 -- ---- the list
 
@@ -243,7 +220,7 @@ module _ (first : PublisherNumber) where
     time : ℕ
     timeout : ℕ
     place : cs ≡ before ++ ask_for e time timeout ∷ since
-    accepted : model_answers first (b ++ before) (ask_for e time timeout) ≡ asked (A.Accepted e.number)
+    accepted : model_answers first (b ++ before) (ask_for e time timeout) ≡ asked (Ok e.number)
     deadline : e.deadline ≡ deadline_after (model_answers first) (b ++ before) time timeout
     standing : freed_since (model_answers first) e ((b ++ before) ++ ask_for e time timeout ∷ []) since ≡ false
 
@@ -297,7 +274,7 @@ module _ (first : PublisherNumber) where
             place = ap (λ (x : List Call). c ∷ x) l.place;
             accepted =
                 subst
-                (λ (x : List Call). model_answers first x (ask_for e l.time l.timeout) ≡ asked (A.Accepted e.number))
+                (λ (x : List Call). model_answers first x (ask_for e l.time l.timeout) ≡ asked (Ok e.number))
                 (shift b c l.before) l.accepted;
             deadline =
                 l.deadline

@@ -11,16 +11,14 @@ use lib.ListN.{length}
 use mathlib.Core.List.{List}
 use mir.Syntax.{w64}
 use mir.Val.{SFits}
-use borrow.Author.Tests.{eqb-true, eqb-false, eq-eqb, ne_eqb, le-ltb, le-leb, ltb-false}
-use Rattle.wire.specs.Choice.{pick}
+use borrow.Author.Tests.{eqb-true, eqb-false, le-ltb, le-leb, ltb-false}
 use Rattle.inflight.specs.Matching.{matching, load, capacity_taken}
-use Rattle.inflight.specs.Model.{Model, empty, ask_refusal, ask_answer, given}
-use Rattle.inflight.specs.Tables.{Table, Sized, fresh_of}
+use Rattle.inflight.specs.Model.{Model, empty, check_ask, ask_answer, given}
+use Rattle.inflight.specs.Tables.{Sized, fresh_of}
+use Rattle.inflight.specs.declared.Table.{Table}
 use Rattle.inflight.specs.Calls.{Call, model_run, model_at}
 use Rattle.inflight.specs.declared.FrontNumber.{FrontNumber}
 use Rattle.inflight.specs.declared.PublisherNumber.{PublisherNumber}
-use Rattle.inflight.specs.declared.AskAnswer.TheVariants.{Accepted, Refused}
-use Rattle.inflight.specs.declared.FreshAnswer.TheVariants as F
 use Rattle.inflight.specs.Requests.{Reply}
 use Rattle.inflight.proofs.NumberLaws.{ne_same}
 use Rattle.inflight.proofs.AskLaws.{Applies, ask-full, ask-under, ask-gone, ask-left}
@@ -28,45 +26,49 @@ use Rattle.inflight_claims.specs.ListClaim.{Valid, Capacity, Kept, ListClaim, Li
 use Rattle.inflight_model.proofs.Capacity.{accepts, bounded-size}
 use Rattle.inflight_model.proofs.Invariant.{Ranged, Invariant, inv_at, given-ranged, new-number}
 use Rattle.inflight_tied.proofs.Simulated.{run-same, fresh-ready, ready-not-below, fresh-good, fresh-model}
+use Rattle.std.specs.Prelude.{Result, Ok, Err, ⊤}
+use Rattle.std.specs.Result.{result_and}
+use Rattle.refusal.specs.declared.Refusal.{Refusal}
+use Rattle.refusal.specs.declared.Refusal.TheVariants.{LoadAtLimit, CapacityGone}
 
 module _ (m : Model) (l : ℕ) (n : FrontNumber) (p time : ℕ) where
-  pub answer-yes : ask_refusal m l n p time ≡ 0 → ask_answer m l n p time ≡ Accepted (given m p)
+  pub answer-yes : check_ask m l n p time ≡ Ok tt → ask_answer m l n p time ≡ Ok (given m p)
   unfolding ask_answer
-  answer-yes e = rw (eq-eqb (ask_refusal m l n p time) 0 e)
+  answer-yes e = rw e
 
-  pub answer-no : (k : ℕ) → ask_refusal m l n p time ≡ k → (k ≡ 0 → ⊥) → ask_answer m l n p time ≡ Refused k
+  pub answer-no : (k : Refusal) → check_ask m l n p time ≡ Err k → ask_answer m l n p time ≡ Err k
   unfolding ask_answer
-  answer-no k e h = rw (e, ne_eqb k 0 h)
+  answer-no k e = rw e
 
   -- an accepted ask is not refused, and its answer is the number given
-  pub answer-accepted : (x : PublisherNumber) → ask_answer m l n p time ≡ Accepted x → (ask_refusal m l n p time ≡ 0) × (given m p ≡ x)
+  pub answer-accepted : (x : PublisherNumber) → ask_answer m l n p time ≡ Ok x → (check_ask m l n p time ≡ Ok tt) × (given m p ≡ x)
   unfolding ask_answer
-  answer-accepted x = go (eqb (ask_refusal m l n p time) 0) refl
+  answer-accepted x = go (check_ask m l n p time) refl
     where
-      go : (y : Bool) → eqb (ask_refusal m l n p time) 0 ≡ y → pick y (Accepted (given m p)) (Refused (ask_refusal m l n p time)) ≡ Accepted x
-          → (ask_refusal m l n p time ≡ 0) × (given m p ≡ x)
-      go true e h = (eqb-true (ask_refusal m l n p time) 0 e, cc)
-      go false e h = let z : ◌≡◌ {A = ℕ} 0 1 = cc in absurd (omega arith)
+      go : (y : Result ⊤ Refusal) → check_ask m l n p time ≡ y → result_and y (Ok (given m p)) ≡ Ok x
+          → (check_ask m l n p time ≡ Ok tt) × (given m p ≡ x)
+      go (Ok o) e h = (e, cc)
+      go (Err o) e h = cc
 
 -- the sentences on capacity
 pub capacity : (m : Model) (l : ℕ) (n : FrontNumber) (p time : ℕ) → Valid m l n p time → Capacity m l n p time
 capacity m l n p time v =
     record {
       under = λ h. answer-yes m l n p time (ask-under applies h);
-      taken = λ h k t. answer-no m l n p time 33 (ask-gone applies h (omega arith) t) (λ q. omega arith);
+      taken = λ h k t. answer-no m l n p time CapacityGone (ask-gone applies h (omega arith) t);
       only = λ h k a. only h k (eqb (capacity_taken m.requests) 64) refl a;
       left = left;
-      full = λ h. answer-no m l n p time 32 (ask-full applies (omega arith)) (λ q. omega arith);
+      full = λ h. answer-no m l n p time LoadAtLimit (ask-full applies (omega arith));
     }
   where
     applies : Applies m l n p time
     applies = record { link = v.link; publisher = v.publisher; clock = v.clock; number = ne_same n.0 (pos 0) v.number; own = v.own }
 
-    left : 4 ≤ load m.requests p → load m.requests p ≤ 15 → (capacity_taken m.requests ≡ 64 → ⊥) → ask_answer m l n p time ≡ Accepted (given m p)
+    left : 4 ≤ load m.requests p → load m.requests p ≤ 15 → (capacity_taken m.requests ≡ 64 → ⊥) → ask_answer m l n p time ≡ Ok (given m p)
     left h k t = answer-yes m l n p time (ask-left applies h (omega arith) t)
 
     only : 4 ≤ load m.requests p → load m.requests p ≤ 15 → (y : Bool) → eqb (capacity_taken m.requests) 64 ≡ y
-        → ask_answer m l n p time ≡ Refused 33 → capacity_taken m.requests ≡ 64
+        → ask_answer m l n p time ≡ Err CapacityGone → capacity_taken m.requests ≡ 64
     only h k true e a = eqb-true (capacity_taken m.requests) 64 e
     only h k false e a =
         let b = left h k (eqb-false (capacity_taken m.requests) 64 e) in
@@ -95,11 +97,11 @@ kept m f =
     given_from_one x r = rw r.is (le-leb 1 r.at r.low)
 
 -- fresh accepts a number from 1 to the largest
-pub ranged-ready : (t : Table) (first : PublisherNumber) → Ranged first → (fresh_of t first).answer ≡ F.Ready
+pub ranged-ready : (t : Table) (first : PublisherNumber) → Ranged first → (fresh_of t first).answer ≡ Ok tt
 ranged-ready t first r = fresh-ready t first (rw r.is (le-ltb r.at 1 r.low))
 
 -- and of those that fit 64 bits no other
-pub ready-ranged : (t : Table) (first : PublisherNumber) → SFits w64 first.0 → (fresh_of t first).answer ≡ F.Ready
+pub ready-ranged : (t : Table) (first : PublisherNumber) → SFits w64 first.0 → (fresh_of t first).answer ≡ Ok tt
     → Ranged first
 ready-ranged t first f r = go first.0 refl (ready-not-below t first r)
   where

@@ -15,15 +15,13 @@ use borrow.Author.Tests.{eqb-true, eqb-false, eq-eqb, ltb-true, ltb-false, lt-le
 use Rattle.wire.specs.Choice.{pick}
 use Rattle.inflight.specs.Numbers.{after, same}
 use Rattle.inflight.specs.Matching.{matching, next_free}
-use Rattle.inflight.specs.Model.{Model, ask_refusal, take_refusal, drop_refusal, given}
+use Rattle.inflight.specs.Model.{Model, check_ask, check_take, check_drop, given}
 use Rattle.inflight.specs.Model as M
 use Rattle.inflight.specs.Calls.{Call, ask, reply, cancel, gone, run_out, asked, replied, model_after, model_at}
 use Rattle.inflight.specs.declared.FrontNumber.{FrontNumber}
 use Rattle.inflight.specs.declared.PublisherNumber.{PublisherNumber}
 use Rattle.inflight.specs.Requests.{Request}
 use Rattle.inflight.specs.Requests.{Reply, Cancel, key_of}
-use Rattle.inflight.specs.declared.AskAnswer.TheVariants as A
-use Rattle.inflight.specs.declared.ReplyAnswer.TheVariants as R
 use Rattle.inflight.proofs.NumberLaws.{ne_same}
 use Rattle.inflight_claims.specs.Delivery.{Answers, refused, steps, in_row, passed, moved, stepped_from, stepped}
 use Rattle.inflight_model.proofs.Flight.{top, wrap, after-wrap, wrap-apart, wrap-zero}
@@ -31,6 +29,11 @@ use Rattle.inflight_model.proofs.Capacity.{accepts, bounded-space}
 use Rattle.inflight_model.proofs.Invariant.{Ranged, inv_at, after-ranged, new-number}
 use Rattle.inflight_claims.proofs.ListClaim.{answer-accepted}
 use Rattle.inflight_claims.proofs.History.{model_answers, at_snoc}
+use Rattle.std.specs.Prelude.{Result, Ok, Err, is_ok, is_err, ⊤}
+use Rattle.std.specs.Result.{result_and}
+use Rattle.refusal.specs.declared.Refusal.{Refusal}
+use Rattle.refusal.specs.declared.Refusal.TheVariants.{NoSuchRequest}
+use Rattle.inflight.specs.declared.FrontEnd.{FrontEnd}
 
 -- ---- steps
 
@@ -112,11 +115,13 @@ row-enough (suc f) (suc g) es p n l h = go (eqb (length (matching (Reply p n) es
 -- a reply in range finds nothing exactly if its number is not in flight
 pub reply-none : (m : Model) (p : ℕ) (n : PublisherNumber) → p < 8 → same n.0 (pos 0) ≡ false
     → refused (replied (M.reply_answer m p n)) ≡ eqb (length (matching (Reply p n) m.requests)) 0
-unfolding M.reply_answer M.take_refusal
+unfolding M.reply_answer M.check_take
 reply-none m p n h z = rw (lt-leb 8 p h, z) (go (eqb (length (matching (Reply p n) m.requests)) 0))
   where
     go : (t : Bool)
-        → refused (replied (pick (eqb (pick t 34 0) 0) (R.Front (M.matched m (Reply p n)).link (M.matched m (Reply p n)).front) (R.Refused (pick t 34 0)))) ≡ t
+        → is_err (result_and {T = ⊤} {U = FrontEnd} (pick t (Err NoSuchRequest) (Ok tt))
+        (Ok (record { link = (M.matched m (Reply p n)).link; number = (M.matched m (Reply p n)).front })))
+        ≡ t
     go true = refl
     go false = refl
 
@@ -139,7 +144,7 @@ module _ (first : PublisherNumber) (ranged : Ranged first) (p : ℕ) (range : p 
   next m = get_or m.next p (record { 0 = pos 0 })
 
   -- the number that an accepted ask is given
-  given-at : (b : List Call) (l : ℕ) (f : FrontNumber) (time s : ℕ) → ask_refusal (at b) l f p time ≡ 0 → next (at b) ≡ steps s first
+  given-at : (b : List Call) (l : ℕ) (f : FrontNumber) (time s : ℕ) → check_ask (at b) l f p time ≡ Ok tt → next (at b) ≡ steps s first
       → given (at b) p ≡ steps (passed (model_answers first) first p b s + s) first
   given-at b l f time s a e =
       let m = at b in
@@ -159,30 +164,30 @@ module _ (first : PublisherNumber) (ranged : Ranged first) (p : ℕ) (range : p 
       → next (M.ask (at b) l f q time timeout)
       ≡ steps (moved (model_answers first) first p b s (ask l f q time timeout)) first
   unfolding M.ask M.accept M.ask_answer moved steps
-  next-ask b s l f q time timeout e = go (eqb q p) refl (eqb (ask_refusal (at b) l f q time) 0) refl
+  next-ask b s l f q time timeout e = go (eqb q p) refl (check_ask (at b) l f q time) refl
     where
-      go : (x : Bool) → eqb q p ≡ x → (y : Bool) → eqb (ask_refusal (at b) l f q time) 0 ≡ y
-          → next (pick y (M.accept (at b) l f q time timeout) (at b))
-          ≡ steps (pick (x && not (refused (asked (pick y (A.Accepted (given (at b) q)) (A.Refused (ask_refusal (at b) l f q time)))))) (suc (passed (model_answers first) first p b s + s)) s) first
-      go true u true v =
+      go : (x : Bool) → eqb q p ≡ x → (y : Result ⊤ Refusal) → check_ask (at b) l f q time ≡ y
+          → next (pick (is_ok y) (M.accept (at b) l f q time timeout) (at b))
+          ≡ steps (pick (x && not (is_err (result_and y (Ok (given (at b) q))))) (suc (passed (model_answers first) first p b s + s)) s) first
+      go true u (Ok o) v =
           let w : q ≡ p = eqb-true q p u in
-          let a : ask_refusal (at b) l f p time ≡ 0 = ap (λ (j : ℕ). ask_refusal (at b) l f j time) (sym w) ∙ eqb-true (ask_refusal (at b) l f q time) 0 v in
+          let a : check_ask (at b) l f p time ≡ Ok tt = ap (λ (j : ℕ). check_ask (at b) l f j time) (sym w) ∙ v in
           let o : p < length (at b).next = omega (arith, (inv_at first ranged b).eight) in
           ap (λ (j : ℕ). get_or (set (at b).next j (after (given (at b) j))) p (record { 0 = pos 0 })) w ∙ get_or-set_same (at b).next p (after (given (at b) p)) (record { 0 = pos 0 }) o ∙ ap after (given-at b l f time s a e)
-      go true u false v = e
-      go false u true v = get_or-set_other (at b).next q p (after (given (at b) q)) (record { 0 = pos 0 }) (λ i. eqb-false q p u (sym i)) ∙ e
-      go false u false v = e
+      go true u (Err o) v = e
+      go false u (Ok o) v = get_or-set_other (at b).next q p (after (given (at b) q)) (record { 0 = pos 0 }) (λ i. eqb-false q p u (sym i)) ∙ e
+      go false u (Err o) v = e
 
   next-step : (b : List Call) (s : ℕ) (c : Call) → next (at b) ≡ steps s first
       → next (model_after (at b) c) ≡ steps (moved (model_answers first) first p b s c) first
   unfolding moved M.taken M.dropped M.run_out
   next-step b s (ask l f q time timeout) e = next-ask b s l f q time timeout e
-  next-step b s (reply q x) e = keeps (at b) (eqb (take_refusal (at b) (M.no_publisher q) x.0 (Reply q x)) 0) (M.remove (at b) (Reply q x)) refl ∙ e
-  next-step b s (cancel l f) e = keeps (at b) (eqb (take_refusal (at b) (M.no_link l) f.0 (Cancel l f)) 0) (M.remove (at b) (Cancel l f)) refl ∙ e
+  next-step b s (reply q x) e = keeps (at b) (is_ok (check_take (at b) (M.no_publisher q) x.0 (Reply q x))) (M.remove (at b) (Reply q x)) refl ∙ e
+  next-step b s (cancel l f) e = keeps (at b) (is_ok (check_take (at b) (M.no_link l) f.0 (Cancel l f))) (M.remove (at b) (Cancel l f)) refl ∙ e
   next-step b s (gone peer out) e =
-      keeps (at b) (eqb (drop_refusal (at b) (M.no_peer peer) (key_of peer) out) 0) (M.remove (at b) (key_of peer)) refl ∙ e
+      keeps (at b) (is_ok (check_drop (at b) (M.no_peer peer) (key_of peer) out)) (M.remove (at b) (key_of peer)) refl ∙ e
   next-step b s (run_out time out) e =
-      keeps (at b) (eqb (drop_refusal (at b) (M.no_time time) (M.run_out_key (at b) time) out) 0) _ refl ∙ e
+      keeps (at b) (is_ok (check_drop (at b) (M.no_time time) (M.run_out_key (at b) time) out)) _ refl ∙ e
 
   next-from : (cs b : List Call) (s : ℕ) → next (at b) ≡ steps s first
       → next (at (b ++ cs)) ≡ steps (stepped_from (model_answers first) first p b s cs) first
@@ -198,10 +203,10 @@ module _ (first : PublisherNumber) (ranged : Ranged first) (p : ℕ) (range : p 
   next-stepped cs = next-from cs [] 0 (get_or-replicate 8 p first (record { 0 = pos 0 }) range)
 
   pub numbered-at : (cs : List Call) (l : ℕ) (f : FrontNumber) (time timeout : ℕ) (x : PublisherNumber)
-      → model_answers first cs (ask l f p time timeout) ≡ asked (A.Accepted x)
+      → model_answers first cs (ask l f p time timeout) ≡ asked (Ok x)
       → x ≡ steps (passed (model_answers first) first p cs (stepped (model_answers first) first p cs) + stepped (model_answers first) first p cs) first
   numbered-at cs l f time timeout x h =
-      let a : M.ask_answer (at cs) l f p time ≡ A.Accepted x = cc in
+      let a : M.ask_answer (at cs) l f p time ≡ Ok x = cc in
       let k = answer-accepted (at cs) l f p time x a in
       sym k.1 ∙ given-at cs l f time (stepped (model_answers first) first p cs) k.0 (next-stepped cs)
 
@@ -236,7 +241,7 @@ module _ (ans : Answers) (first : PublisherNumber) (p : ℕ) where
 
   -- an accepted ask goes one step, and one for each number passed over
   pub stepped-ask : (cs : List Call) (l : ℕ) (f : FrontNumber) (time timeout : ℕ) (x : PublisherNumber)
-      → ans cs (ask l f p time timeout) ≡ asked (A.Accepted x)
+      → ans cs (ask l f p time timeout) ≡ asked (Ok x)
       → stepped ans first p (cs ++ ask l f p time timeout ∷ []) ≡ suc (passed ans first p cs (stepped ans first p cs) + stepped ans first p cs)
   unfolding stepped_from moved
   stepped-ask cs l f time timeout x h = stepped-append cs (ask l f p time timeout ∷ []) [] 0 ∙ rw (eq-eqb p p refl, h)

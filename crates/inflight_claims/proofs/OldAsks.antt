@@ -5,21 +5,24 @@ use Prim.Native.Nat.{ℕ, ◌<◌}
 use native.Mathlib.Omega.{arith}
 use mathlib.Core.Bool.{Bool, true, false}
 use mathlib.Core.List.{List}
-use lib.Dec.{eqb, leb}
+use lib.Dec.{leb}
 use lib.ListN.{get_or, set}
 use lib.Seq.{get_or-set_other, set-get_or}
 use borrow.Author.Tests.{leb-false}
 use Rattle.inflight.specs.Masks.{lowest_free}
-use Rattle.inflight.specs.Tables.{Table, used, latest_of, timed_of, ask_refusal_of, ask_of}
+use Rattle.inflight.specs.Tables.{used, latest_of, timed_of, check_ask_of, ask_of}
+use Rattle.inflight.specs.declared.Table.{Table}
 use Rattle.inflight.specs.declared.FrontNumber.{FrontNumber}
 use Rattle.inflight_claims.specs.OldAsks.{old_ask_of, OldAsk, OldAsks}
 use Rattle.inflight_claims.specs.OldAsks as O
+use Rattle.std.specs.Prelude.{Result, Ok, Err, ⊤}
+use Rattle.refusal.specs.declared.Refusal.{Refusal}
 
 -- time 0 is never out of range
 refusal-as-before : (t : Table) (l : ℕ) (n : FrontNumber) (p : ℕ)
-    → ask_refusal_of t.masks t.numbers t.places l n p 0
-    ≡ O.ask_refusal_of t.masks t.numbers t.places l n p
-unfolding ask_refusal_of O.ask_refusal_of
+    → check_ask_of t l n p 0
+    ≡ O.check_ask_of t l n p
+unfolding check_ask_of O.check_ask_of
 refusal-as-before t l n p = refl
 
 -- a request without a timeout leaves its slot's deadline at none, and the latest time as it was
@@ -32,14 +35,14 @@ times-as-before ts s h seen =
 
 pub old-asks : OldAsks
 unfolding ask_of old_ask_of
-old-asks t l n p = go (eqb (O.ask_refusal_of t.masks t.numbers t.places l n p) 0) refl (leb 64 s) refl
+old-asks t l n p = go (O.check_ask_of t l n p) refl (leb 64 s) refl
   where
     s : ℕ
     s = lowest_free (used t)
 
-    go : (x : Bool) → eqb (O.ask_refusal_of t.masks t.numbers t.places l n p) 0 ≡ x → (y : Bool) → leb 64 s ≡ y
+    go : (x : Result ⊤ Refusal) → O.check_ask_of t l n p ≡ x → (y : Bool) → leb 64 s ≡ y
         → OldAsk t l n p
-    go false e y d =
+    go (Err x) e y d =
         let r = refusal-as-before t l n p in
         record {
           answer = rw (r, e);
@@ -49,7 +52,7 @@ old-asks t l n p = go (eqb (O.ask_refusal_of t.masks t.numbers t.places l n p) 0
           order = rw (r, e);
           times = λ seen. rw (r, e);
         }
-    go true e true d =
+    go (Ok x) e true d =
         let r = refusal-as-before t l n p in
         record {
           answer = rw (r, e, d);
@@ -59,7 +62,7 @@ old-asks t l n p = go (eqb (O.ask_refusal_of t.masks t.numbers t.places l n p) 0
           order = rw (r, e, d);
           times = λ seen. rw (r, e, d);
         }
-    go true e false d =
+    go (Ok x) e false d =
         let r = refusal-as-before t l n p in
         record {
           answer = rw (r, e, d);

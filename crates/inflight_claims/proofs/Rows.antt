@@ -10,20 +10,21 @@ use lib.ListN.{length}
 use borrow.Author.Tests.{eq-eqb, ne_eqb, le-leb, lt-leb, le-ltb, lt-ltb}
 use Rattle.inflight.specs.Requests.{key_of}
 use Rattle.inflight.specs.Matching.{matching}
-use Rattle.inflight.specs.Model.{Model, ask_refusal, ask_answer, take_refusal, reply_answer, cancel_answer, drop_refusal}
+use Rattle.inflight.specs.Model.{Model, check_ask, ask_answer, check_take, reply_answer, cancel_answer, check_drop}
 use Rattle.inflight.specs.Model.{drop_answer, no_peer, run_out_key}
 use Rattle.inflight.specs.declared.FrontNumber.{FrontNumber}
 use Rattle.inflight.specs.declared.PublisherNumber.{PublisherNumber}
 use Rattle.inflight.specs.declared.Peer.{Peer}
 use Rattle.inflight.specs.declared.Peer.TheVariants as P
-use Rattle.inflight.specs.declared.AskAnswer.TheVariants as A
 use Rattle.inflight.proofs.NumberLaws.{eq-same, ne_same}
 use Rattle.inflight.proofs.AskLaws.{ask-own}
 use Rattle.inflight_claims.proofs.ListClaim.{capacity}
 use Rattle.inflight_claims.specs.Rows.{AskRows, ReplyRows, CancelRows, GoneRows, RunOutRows, Rows}
+use Rattle.std.specs.Prelude.{Err}
+use Rattle.refusal.specs.declared.Refusal.TheVariants.{OutOfRange}
 
 ask-rows : (m : Model) (l : ℕ) (n : FrontNumber) (p time : ℕ) → AskRows m l n p time
-unfolding ask_answer ask_refusal
+unfolding ask_answer check_ask
 ask-rows m l n p time =
     record {
       link = λ h. rw (le-leb 32 l h);
@@ -35,18 +36,18 @@ ask-rows m l n p time =
       valid = capacity m l n p time;
     }
   where
-    out : (t : Bool) → leb 32 l ≡ t → 8 ≤ p → ask_answer m l n p time ≡ A.Refused 30
+    out : (t : Bool) → leb 32 l ≡ t → 8 ≤ p → ask_answer m l n p time ≡ Err OutOfRange
     out true e h = rw e
     out false e h = rw (e, le-leb 8 p h)
 
     late : (t u : Bool) → leb 32 l ≡ t → leb 8 p ≡ u → 4611686018427387904 ≤ time
-        → ask_answer m l n p time ≡ A.Refused 30
+        → ask_answer m l n p time ≡ Err OutOfRange
     late true u d e h = rw d
     late false true d e h = rw (d, e)
     late false false d e h = rw (d, e, le-leb 4611686018427387904 time h)
 
 reply-rows : (m : Model) (p : ℕ) (n : PublisherNumber) → ReplyRows m p n
-unfolding reply_answer take_refusal
+unfolding reply_answer check_take
 reply-rows m p n =
     record {
       range = λ h. rw (le-leb 8 p h);
@@ -56,7 +57,7 @@ reply-rows m p n =
     }
 
 cancel-rows : (m : Model) (l : ℕ) (n : FrontNumber) → CancelRows m l n
-unfolding cancel_answer take_refusal
+unfolding cancel_answer check_take
 cancel-rows m l n =
     record {
       range = λ h. rw (le-leb 32 l h);
@@ -67,7 +68,7 @@ cancel-rows m l n =
 
 gone-rows : (m : Model) (peer : Peer) (limit x : ℕ) (out : List ℤ) → no_peer peer ≡ leb limit x
     → GoneRows m peer limit x out
-unfolding drop_answer drop_refusal
+unfolding drop_answer check_drop
 gone-rows m peer limit x out q =
     let need : ℕ = 2 * length (matching (key_of peer) m.requests) in
     record {
@@ -77,7 +78,7 @@ gone-rows m peer limit x out q =
     }
 
 run-out-rows : (m : Model) (time : ℕ) (out : List ℤ) → RunOutRows m time out
-unfolding drop_answer drop_refusal
+unfolding drop_answer check_drop
 run-out-rows m time out =
     let need : ℕ = 2 * length (matching (run_out_key m time) m.requests) in
     record {

@@ -5,7 +5,7 @@ use Prim.Native.Nat.{ℕ, zero, suc, ◌+◌, ◌-◌, ◌*◌, ◌/◌, ◌%◌
 use native.Mathlib.Omega.{arith}
 use mathlib.Core.Bool.{Bool, true, false}
 use mathlib.Core.List.{List}
-use lib.Dec.{eqb, leb, ltb}
+use lib.Dec.{leb, ltb}
 use lib.Count.{count_trailing_zeros, trailing_of_zero, under}
 use lib.IntN.{ℤ, pos}
 use lib.ListN.{length}
@@ -19,13 +19,13 @@ use Rattle.inflight.specs.Matching.{load}
 use Rattle.inflight.specs.Masks.{bit_at, seek, slots, lowest_free}
 use Rattle.inflight.specs.Model.{Model, empty, no_link, no_publisher, no_peer, no_time}
 use Rattle.inflight.specs.Requests.{Request}
-use Rattle.inflight.specs.Tables.{Table, Sized, table_of, used, mine, placed, given_of, struck, freed, slots_of, leaving}
-use Rattle.inflight.specs.Tables.{is_number, is_front, ask_refusal_of, fresh_of, ask_of, reply_of, cancel_of, other_at, drop_of}
+use Rattle.inflight.specs.Tables.{Sized, table_of, used, mine, placed, given_of, struck, freed, slots_of, leaving}
+use Rattle.inflight.specs.declared.Table.{Table}
+use Rattle.inflight.specs.Tables.{is_number, is_front, check_ask_of, fresh_of, asked_after, ask_of, reply_of, cancel_of, other_at, drop_of}
 use Rattle.inflight.specs.Tables.{Asked, Replied, Cancelled, Dropped, gone_of, ends_at, latest_of, due_of, dropped_at, run_out_of}
 use Rattle.inflight.specs.Calls.{Call, ask, reply, cancel, gone, run_out, table_at, model_at}
 use Rattle.inflight.specs.declared.FrontNumber.{FrontNumber}
 use Rattle.inflight.specs.declared.PublisherNumber.{PublisherNumber}
-use Rattle.inflight.specs.declared.FreshAnswer.TheVariants as F
 use Rattle.inflight.proofs.MaskLaws.{twice}
 use Rattle.inflight_tied.proofs.Tied.{in_flight, model_of}
 use Rattle.inflight_tied.proofs.Loads.{load-ones, length-standing}
@@ -34,11 +34,13 @@ use Rattle.inflight_tied.proofs.Asks.{numbers-old, places-old, deadline-old}
 use Rattle.inflight_tied.proofs.Simulated.{Stays, stays, ready-not-below, fresh-good, fresh-model}
 use Rattle.inflight_claims.specs.Slots.{LoadsByMasks, UsedByMask, SeenByTimes, LowestSlot, Unmoved, NeverMoves}
 use Rattle.inflight_claims.proofs.ListClaim.{ready-ranged}
+use Rattle.std.specs.Prelude.{Result, Ok, Err, ⊤}
+use Rattle.refusal.specs.declared.Refusal.{Refusal}
 
 -- ---- along the list the table is tied, and reads as the model
 
 module _ (t : Table) (z : Sized t) (first : PublisherNumber) (f : SFits w64 first.0)
-    (r : (fresh_of t first).answer ≡ F.Ready) (cs : List Call) where
+    (r : (fresh_of t first).answer ≡ Ok tt) (cs : List Call) where
   along : Stays (fresh_of t first).table cs
   along =
       stays cs (fresh_of t first).table
@@ -139,13 +141,19 @@ module _ (t : Table) (i : ℕ) where
         deadline = get_or-set_other t.times 64 i now 0 (λ q. omega arith);
       })
 
+-- what an ask leaves, by its check
+by_check : (P : Asked → Type 0) (t : Table) (r : Result ⊤ Refusal) (a : Asked) → P a → ((e : Refusal) → P (record { table = t; answer = Err e }))
+    → P (asked_after t r a)
+by_check P t (Ok x) a h k = h
+by_check P t (Err e) a h k = k e
+
 pub never-moves : NeverMoves
 unfolding ask_of reply_of cancel_of gone_of run_out_of freed
 never-moves t (ask l n p time timeout) i h b =
     let kept : (Asked → Type 0) = λ a. Unmoved t a.table i in
     let s : ℕ = lowest_free (used t) in
-    by_row kept (eqb (ask_refusal_of t.masks t.numbers t.places l n p time) 0) _ _
-    (λ e. by_row kept (leb 64 s) _ _ (λ d. stay t i)
+    by_check kept t (check_ask_of t l n p time) _
+    (by_row kept (leb 64 s) _ _ (λ d. stay t i)
     (λ d. let k = leb-false 64 s d in
     placed-stay t i l n p s (given_of t p) time timeout h k (used-apart (used t) i b k)))
     (λ e. stay t i)

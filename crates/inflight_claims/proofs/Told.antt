@@ -6,19 +6,20 @@ use mathlib.Core.Logic.{inl, inr}
 use Prim.Native.Nat.{ℕ, ◌≤◌}
 use mathlib.Core.Bool.{Bool, true, false, ◌||◌, false≢true}
 use mathlib.Core.List.{List, [], ◌∷◌, ◌++◌}
-use lib.Dec.{eqb}
 use lib.IntN.{ℤ}
 use lib.ListN.{length, drop}
 use borrow.Author.Tests.{eq-eqb}
 use Rattle.inflight.specs.Numbers.{same}
 use Rattle.inflight.specs.Matching.{matches, matching, other_ends, blank}
-use Rattle.inflight.specs.Model.{Model, drop_refusal, drop_answer, drop_slice, no_time, run_out_key}
+use Rattle.inflight.specs.Model.{Model, check_drop, drop_answer, drop_slice, no_time, run_out_key}
 use Rattle.inflight.specs.Calls.{run_out, model_heard}
 use Rattle.inflight.specs.declared.FrontNumber.{FrontNumber}
 use Rattle.inflight.specs.Requests.{Request, Key, Cancel, Due}
 use Rattle.inflight.proofs.NumberLaws.{eq-same}
 use Rattle.inflight_claims.specs.Delivery.{frees, among, told}
 use Rattle.inflight_claims.proofs.Membership.{In, in-matching, matching-in, in-single, clash}
+use Rattle.std.specs.Prelude.{Result, Ok, Err, ⊤}
+use Rattle.refusal.specs.declared.Refusal.{Refusal}
 
 -- whether a key matches one of some requests
 unfoldable some : Key → List Request → Bool
@@ -85,7 +86,7 @@ pub tells : (m : Model) (e : Request) → In e m.requests → length (matching (
     → (time : ℕ) (out : List ℤ)
     → told e (model_heard m (run_out time out)) ≡ frees m.seen e (run_out time out) (model_heard m (run_out time out))
 unfolding frees drop_answer drop_slice
-tells m e i once time out = go (eqb (drop_refusal m (no_time time) (run_out_key m time) out) 0) refl
+tells m e i once time out = go (check_drop m (no_time time) (run_out_key m time) out) refl
   where
     k : Key
     k = run_out_key m time
@@ -93,10 +94,10 @@ tells m e i once time out = go (eqb (drop_refusal m (no_time time) (run_out_key 
     ends : List ℤ
     ends = other_ends k (matching k m.requests)
 
-    go : (y : Bool) → eqb (drop_refusal m (no_time time) (run_out_key m time) out) 0 ≡ y
+    go : (y : Result ⊤ Refusal) → check_drop m (no_time time) (run_out_key m time) out ≡ y
         → told e (model_heard m (run_out time out)) ≡ frees m.seen e (run_out time out) (model_heard m (run_out time out))
-    go true q =
+    go (Ok x) q =
         rw q
         (among-ends _ e.link e.front (matching k m.requests) (drop (length ends) out)
         ∙ some-own k e m.requests i once)
-    go false q = rw q
+    go (Err x) q = rw q

@@ -4,7 +4,7 @@
 -- since, as the model has it: an ask's time and timeout, each request's deadline, the latest time seen, and run out
 -- (document 02, A2). `AsBefore` says that the table answers, and leaves the lent slice, as that one does.
 -- Assumes nothing.
-use Rattle.std.specs.Prelude.{◌≡◌, ℕ, Bool, List, [], ◌∷◌, ◌++◌, eqb, leb, ℤ, pos, length, take, drop, replicate}
+use Rattle.std.specs.Prelude.{◌≡◌, ℕ, Bool, List, [], ◌∷◌, ◌++◌, leb, ℤ, pos, length, take, drop, replicate}
 use Rattle.std.specs.Int.Signed.{lt_z}
 use Rattle.std.specs.Int.{w64}
 use Rattle.std.proofs.Common.{SFits}
@@ -19,13 +19,13 @@ use Rattle.inflight.specs.Calls as K
 use Rattle.inflight.specs.declared.FrontNumber.{FrontNumber}
 use Rattle.inflight.specs.declared.PublisherNumber.{PublisherNumber}
 use Rattle.inflight.specs.declared.Peer.TheVariants as P
-use Rattle.inflight.specs.declared.FreshAnswer.{FreshAnswer}
-use Rattle.inflight.specs.declared.FreshAnswer.TheVariants as F
-use Rattle.inflight.specs.declared.AskAnswer.{AskAnswer}
-use Rattle.inflight.specs.declared.AskAnswer.TheVariants as A
-use Rattle.inflight.specs.declared.ReplyAnswer.{ReplyAnswer}
-use Rattle.inflight.specs.declared.CancelAnswer.{CancelAnswer}
-use Rattle.inflight.specs.declared.DropAnswer.{DropAnswer}
+use Rattle.std.specs.Prelude.{Result, Ok, Err, is_ok, ⊤}
+use Rattle.refusal.specs.declared.Refusal.{Refusal}
+use Rattle.refusal.specs.declared.Refusal.TheVariants.{OutOfRange, CapacityGone}
+use Rattle.std.specs.Result.{result_and}
+use Rattle.inflight.specs.declared.FrontEnd.{FrontEnd}
+use Rattle.inflight.specs.declared.PublisherEnd.{PublisherEnd}
+use Rattle.inflight.specs.declared.Table as D
 
 -- its first `count` requests are in flight, oldest accepted first; `next` is the number after each publisher's last
 -- one, `seen` the latest time seen
@@ -37,23 +37,23 @@ pub record Table : Type 0 where
 
 pub record Started : Type 0 where
   pub table : Table
-  pub answer : FreshAnswer
+  pub answer : Result ⊤ Refusal
 
 pub record Asked : Type 0 where
   pub table : Table
-  pub answer : AskAnswer
+  pub answer : Result PublisherNumber Refusal
 
 pub record Replied : Type 0 where
   pub table : Table
-  pub answer : ReplyAnswer
+  pub answer : Result FrontEnd Refusal
 
 pub record Cancelled : Type 0 where
   pub table : Table
-  pub answer : CancelAnswer
+  pub answer : Result PublisherEnd Refusal
 
 pub record Dropped : Type 0 where
   pub table : Table
-  pub answer : DropAnswer
+  pub answer : Result ℕ Refusal
 
 -- the requests in flight in a table, oldest first
 unfoldable pub in_flight : Table → List Request
@@ -81,25 +81,25 @@ empty_table n = record { requests = replicate 64 blank; count = 0; next = replic
 unfoldable pub fresh_of : PublisherNumber → Started
 fresh_of n =
     pick (lt_z n.0 (pos 1))
-    (record { table = empty_table (record { 0 = pos 1 }); answer = F.Refused 30 })
-    (record { table = empty_table n; answer = F.Ready })
+    (record { table = empty_table (record { 0 = pos 1 }); answer = Err OutOfRange })
+    (record { table = empty_table n; answer = Ok tt })
 
 -- ask: as the model, but that a table whose 64 places are all taken, which no fresh one leads to, refuses with 33
-unfoldable pub ask_refusal_of : Table → ℕ → FrontNumber → ℕ → ℕ → ℕ
-ask_refusal_of t l n p time =
-    pick (eqb (M.ask_refusal (model_of t) l n p time) 0)
-    (pick (leb 64 (length (in_flight t))) 33 0)
-    (M.ask_refusal (model_of t) l n p time)
+unfoldable pub check_ask_of : Table → ℕ → FrontNumber → ℕ → ℕ → Result ⊤ Refusal
+check_ask_of t l n p time =
+    result_and (M.check_ask (model_of t) l n p time)
+    (pick (leb 64 (length (in_flight t))) (Err CapacityGone) (Ok tt))
 
 unfoldable pub ask_of : Table → ℕ → FrontNumber → ℕ → ℕ → ℕ → Asked
 ask_of t l n p time timeout =
-    pick (eqb (ask_refusal_of t l n p time) 0)
-    (record { table = store t (M.accept (model_of t) l n p time timeout); answer = A.Accepted (M.given (model_of t) p) })
-    (record { table = t; answer = A.Refused (ask_refusal_of t l n p time) })
+    record {
+      table = pick (is_ok (check_ask_of t l n p time)) (store t (M.accept (model_of t) l n p time timeout)) t;
+      answer = result_and (check_ask_of t l n p time) (Ok (M.given (model_of t) p));
+    }
 
 -- reply and cancel: what the key matches is removed, unless refused
 unfoldable pub taken_of : Table → Bool → ℤ → Key → Table
-taken_of t range n k = pick (eqb (M.take_refusal (model_of t) range n k) 0) (store t (M.remove (model_of t) k)) t
+taken_of t range n k = pick (is_ok (M.check_take (model_of t) range n k)) (store t (M.remove (model_of t) k)) t
 
 unfoldable pub reply_of : Table → ℕ → PublisherNumber → Replied
 reply_of t p n = record { table = taken_of t (M.no_publisher p) n.0 (Reply p n); answer = M.reply_answer (model_of t) p n }
@@ -111,7 +111,7 @@ cancel_of t l n = record { table = taken_of t (M.no_link l) n.0 (Cancel l n); an
 unfoldable pub drop_of : Table → Bool → Key → List ℤ → Dropped
 drop_of t range k out =
     record {
-      table = pick (eqb (M.drop_refusal (model_of t) range k out) 0) (store t (M.remove (model_of t) k)) t;
+      table = pick (is_ok (M.check_drop (model_of t) range k out)) (store t (M.remove (model_of t) k)) t;
       answer = M.drop_answer (model_of t) range k out;
     }
 
@@ -135,7 +135,7 @@ unfoldable pub run_out_of : Table → ℕ → List ℤ → Dropped
 run_out_of t time out =
     record {
       table =
-          pick (eqb (M.drop_refusal (model_of t) (M.no_time time) (M.run_out_key (model_of t) time) out) 0)
+          pick (is_ok (M.check_drop (model_of t) (M.no_time time) (M.run_out_key (model_of t) time) out))
           (store t (M.run_out (model_of t) time out))
           t;
       answer = M.run_out_answer (model_of t) time out;
@@ -169,10 +169,10 @@ table_run t (c ∷ cs) = table_heard t c ∷ table_run (table_after t c) cs
 -- the claim, of a table that is started afresh, whatever it held
 pub record AsBefore : Type 0 where
   -- every first number is answered as it was: accepted, or refused with 30
-  pub fresh : (t : T.Table) (first : PublisherNumber) → (T.fresh_of t first).answer ≡ (fresh_of first).answer
+  pub fresh : (t : D.Table) (first : PublisherNumber) → (T.fresh_of t first).answer ≡ (fresh_of first).answer
   -- from every first number that is accepted on, for every table of the types' sizes and every list of calls, every
   -- call's answer and the whole lent slice after it are what they were. After a refusal the table was one that starts
   -- at 1, and is now as it was before the call
-  pub runs : (t : T.Table) → T.Sized t → (first : PublisherNumber) → SFits w64 first.0
-      → (T.fresh_of t first).answer ≡ F.Ready → (cs : List Call)
+  pub runs : (t : D.Table) → T.Sized t → (first : PublisherNumber) → SFits w64 first.0
+      → (T.fresh_of t first).answer ≡ Ok tt → (cs : List Call)
       → K.table_run (T.fresh_of t first).table cs ≡ table_run (fresh_of first).table cs

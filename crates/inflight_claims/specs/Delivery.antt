@@ -9,17 +9,16 @@ use Rattle.wire.specs.Choice.{pick}
 use Rattle.inflight.specs.Numbers.{same, after}
 use Rattle.inflight.specs.Matching.{matches}
 use Rattle.inflight.specs.Model.{deadline_at}
-use Rattle.inflight.specs.Tables.{Table, Sized, fresh_of}
+use Rattle.inflight.specs.Tables.{Sized, fresh_of}
+use Rattle.inflight.specs.declared.Table.{Table}
 use Rattle.inflight.specs.Calls.{Call, Heard, ask, reply, cancel, gone, run_out, asked, replied, cancelled, dropped}
 use Rattle.inflight.specs.Calls.{table_heard, table_at}
 use Rattle.inflight.specs.declared.FrontNumber.{FrontNumber}
 use Rattle.inflight.specs.declared.PublisherNumber.{PublisherNumber}
 use Rattle.inflight.specs.Requests.{Request}
 use Rattle.inflight.specs.Requests.{Reply, Cancel, Due, key_of}
-use Rattle.inflight.specs.declared.AskAnswer.TheVariants as A
-use Rattle.inflight.specs.declared.ReplyAnswer.TheVariants as R
-use Rattle.inflight.specs.declared.CancelAnswer.TheVariants as C
-use Rattle.inflight.specs.declared.DropAnswer.TheVariants as D
+use Rattle.std.specs.Prelude.{Ok, Err, is_err}
+use Rattle.refusal.specs.declared.Refusal.TheVariants.{NoSuchRequest}
 
 -- what is heard of a call that is made after some calls, or would be heard if it were made
 abbrev pub Answers : Type 0
@@ -31,14 +30,10 @@ table_answers t first before c = table_heard (table_at (fresh_of t first).table 
 
 -- whether a call was refused
 abbrev pub refused : Heard → Bool
-refused (asked (A.Accepted x)) = false
-refused (asked (A.Refused n)) = true
-refused (replied (R.Front l f)) = false
-refused (replied (R.Refused n)) = true
-refused (cancelled (C.Publisher p x)) = false
-refused (cancelled (C.Refused n)) = true
-refused (dropped (D.Count n) out) = false
-refused (dropped (D.Refused n) out) = true
+refused (asked a) = is_err a
+refused (replied a) = is_err a
+refused (cancelled a) = is_err a
+refused (dropped a out) = is_err a
 
 -- ---- times (document 02, A2)
 
@@ -96,7 +91,7 @@ pub record Carried (ans : Answers) (cs : List Call) (e : Request) : Type 0 where
   pub time : ℕ
   pub timeout : ℕ
   pub place : cs ≡ before ++ ask_for e time timeout ∷ since
-  pub accepted : ans before (ask_for e time timeout) ≡ asked (A.Accepted e.number)
+  pub accepted : ans before (ask_for e time timeout) ≡ asked (Ok e.number)
   pub deadline : e.deadline ≡ deadline_after ans before time timeout
   pub standing : freed_since ans e (before ++ ask_for e time timeout ∷ []) since ≡ false
 
@@ -111,8 +106,8 @@ abbrev pub told : Request → Heard → Bool
 told e (asked a) = false
 told e (replied a) = false
 told e (cancelled a) = false
-told e (dropped (D.Count k) out) = among e.link e.front k out
-told e (dropped (D.Refused k) out) = false
+told e (dropped (Ok k) out) = among e.link e.front k out
+told e (dropped (Err k) out) = false
 
 -- ---- numbering
 
@@ -160,10 +155,10 @@ request l f p x d = record { link = l; front = f; publisher = p; number = x; dea
 pub record Delivery (ans : Answers) (first : PublisherNumber) (cs : List Call) : Type 0 where
   -- a reply for (publisher, number) after the calls is answered with (link, front number) exactly if an ask of that
   -- link and front number for that publisher was accepted with that number and is still in flight
-  pub delivered : (l : ℕ) (f : FrontNumber) (p : ℕ) (x : PublisherNumber) → ans cs (reply p x) ≡ replied (R.Front l f)
+  pub delivered : (l : ℕ) (f : FrontNumber) (p : ℕ) (x : PublisherNumber) → ans cs (reply p x) ≡ replied (Ok (record { link = l; number = f }))
       → (d : ℕ) × Carried ans cs (request l f p x d)
   pub carried : (l : ℕ) (f : FrontNumber) (p : ℕ) (x : PublisherNumber) (d : ℕ) → Carried ans cs (request l f p x d)
-      → ans cs (reply p x) ≡ replied (R.Front l f)
+      → ans cs (reply p x) ≡ replied (Ok (record { link = l; number = f }))
   -- that ask is one: two that are in flight with one publisher and number stand at one place of the list
   pub one : (e d : Request) → e.publisher ≡ d.publisher → e.number ≡ d.number → (c : Carried ans cs e)
       (b : Carried ans cs d) → c.before ≡ b.before
@@ -171,44 +166,44 @@ pub record Delivery (ans : Answers) (first : PublisherNumber) (cs : List Call) :
   -- numbering last went round
   pub only : (e : Request) (c : Carried ans cs e) (d : Request) (time timeout : ℕ) (before since : List Call)
       → cs ≡ before ++ ask_for d time timeout ∷ since
-      → ans before (ask_for d time timeout) ≡ asked (A.Accepted d.number)
+      → ans before (ask_for d time timeout) ≡ asked (Ok d.number)
       → d.publisher ≡ e.publisher → d.number ≡ e.number
       → stepped ans first e.publisher cs
       < stepped ans first e.publisher (before ++ ask_for d time timeout ∷ []) + round
       → before ≡ c.before
   -- a second reply directly after it finds nothing
-  pub twice : (l : ℕ) (f : FrontNumber) (p : ℕ) (x : PublisherNumber) → ans cs (reply p x) ≡ replied (R.Front l f)
-      → ans (cs ++ reply p x ∷ []) (reply p x) ≡ replied (R.Refused 34)
+  pub twice : (l : ℕ) (f : FrontNumber) (p : ℕ) (x : PublisherNumber) → ans cs (reply p x) ≡ replied (Ok (record { link = l; number = f }))
+      → ans (cs ++ reply p x ∷ []) (reply p x) ≡ replied (Err NoSuchRequest)
   -- a reply to which no such ask belongs, and to which 30 and 12 do not apply, finds nothing
   pub nowhere : (p : ℕ) (x : PublisherNumber) → p < 8 → (x.0 ≡ pos 0 → ⊥)
       → ((l : ℕ) (f : FrontNumber) (d : ℕ) → Carried ans cs (request l f p x d) → ⊥)
-      → ans cs (reply p x) ≡ replied (R.Refused 34)
+      → ans cs (reply p x) ≡ replied (Err NoSuchRequest)
   -- a late answer: a reply to an ask that was freed since finds nothing until the numbering of its publisher has gone
   -- right round
   pub overdue : (e : Request) (time timeout : ℕ) (before since : List Call)
       → cs ≡ before ++ ask_for e time timeout ∷ since
-      → ans before (ask_for e time timeout) ≡ asked (A.Accepted e.number)
+      → ans before (ask_for e time timeout) ≡ asked (Ok e.number)
       → e.deadline ≡ deadline_after ans before time timeout
       → freed_since ans e (before ++ ask_for e time timeout ∷ []) since ≡ true
       → stepped ans first e.publisher cs
       < stepped ans first e.publisher (before ++ ask_for e time timeout ∷ []) + round
-      → ans cs (reply e.publisher e.number) ≡ replied (R.Refused 34)
+      → ans cs (reply e.publisher e.number) ≡ replied (Err NoSuchRequest)
   -- an accepted ask gets the next number of its publisher, passing over any in flight with it
-  pub numbered : (e : Request) (time timeout : ℕ) → ans cs (ask_for e time timeout) ≡ asked (A.Accepted e.number)
+  pub numbered : (e : Request) (time timeout : ℕ) → ans cs (ask_for e time timeout) ≡ asked (Ok e.number)
       → e.number
       ≡ steps
       (passed ans first e.publisher cs (stepped ans first e.publisher cs) + stepped ans first e.publisher cs)
       first
   -- so a number comes to a publisher again only after its numbering has gone right round
   pub again : (e d : Request) (t u v w : ℕ) (before since : List Call) → cs ≡ before ++ ask_for e t u ∷ since
-      → ans before (ask_for e t u) ≡ asked (A.Accepted e.number)
-      → ans cs (ask_for d v w) ≡ asked (A.Accepted d.number)
+      → ans before (ask_for e t u) ≡ asked (Ok e.number)
+      → ans cs (ask_for d v w) ≡ asked (Ok d.number)
       → d.publisher ≡ e.publisher → d.number ≡ e.number
       → stepped ans first e.publisher (before ++ ask_for e t u ∷ []) + round
       ≤ stepped ans first e.publisher (cs ++ ask_for d v w ∷ [])
   -- "and never while it is in flight"
   pub apart : (e d : Request) (time timeout : ℕ) → Carried ans cs e
-      → ans cs (ask_for d time timeout) ≡ asked (A.Accepted d.number)
+      → ans cs (ask_for d time timeout) ≡ asked (Ok d.number)
       → d.publisher ≡ e.publisher → d.number ≡ e.number → ⊥
   -- of the requests in flight a run-out tells those that it frees and no other: link and front number are written
   -- exactly if the call is not refused and the deadline is at or before the latest time seen, its own among them. That

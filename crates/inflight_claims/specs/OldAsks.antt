@@ -3,29 +3,31 @@
 -- which they leave; `OldAsks` says that such an ask does what it did then, gives its request no deadline, and lets the
 -- latest time stand.
 -- Assumes nothing.
-use Rattle.std.specs.Prelude.{◌≡◌, ℕ, ◌+◌, ◌^◌, ◌<◌, Bool, true, false, not, List, [], ◌∷◌, eqb, leb, ℤ, pos, get_or, set}
+use Rattle.std.specs.Prelude.{◌≡◌, ℕ, ◌+◌, ◌^◌, ◌<◌, Bool, true, false, not, [], ◌∷◌, eqb, leb, pos, get_or, set}
 use Rattle.std.specs.Int.Bits.{bit_or}
 use Rattle.std.specs.Int.Count.{ones}
 use Rattle.wire.specs.Choice.{pick, first}
 use Rattle.inflight.specs.Numbers.{same, after}
 use Rattle.inflight.specs.Model.{no_link, no_publisher}
 use Rattle.inflight.specs.Masks.{slots, seek, lowest_free}
-use Rattle.inflight.specs.Tables.{Table, used, mine, is_front, load_refusal, given_of, Asked, ask_of}
+use Rattle.inflight.specs.Tables.{used, mine, is_front, check_load, given_of, Asked, asked_after, ask_of}
+use Rattle.inflight.specs.declared.Table.{Table}
 use Rattle.inflight.specs.declared.FrontNumber.{FrontNumber}
 use Rattle.inflight.specs.declared.PublisherNumber.{PublisherNumber}
-use Rattle.inflight.specs.declared.AskAnswer.{AskAnswer}
-use Rattle.inflight.specs.declared.AskAnswer.TheVariants as A
+use Rattle.std.specs.Prelude.{Result, Ok, Err, ⊤}
+use Rattle.refusal.specs.declared.Refusal.{Refusal}
+use Rattle.refusal.specs.declared.Refusal.TheVariants.{OutOfRange, NumberZero, InFlightAlready, CapacityGone}
 
--- 30, 12, 31, 32, 33, and 0 where none applies
-unfoldable pub ask_refusal_of : List ℕ → List ℤ → List ℕ → ℕ → FrontNumber → ℕ → ℕ
-ask_refusal_of ms ns ps l n p =
+-- 30, 12, 31, 32, 33
+unfoldable pub check_ask_of : Table → ℕ → FrontNumber → ℕ → Result ⊤ Refusal
+check_ask_of t l n p =
     first
-    ((no_link l, 30)
-    ∷ (no_publisher p, 30)
-    ∷ (same n.0 (pos 0), 12)
-    ∷ (not (eqb (seek (is_front ns ps l n) (slots (get_or ms 0 0))) 64), 31)
+    ((no_link l, Err OutOfRange)
+    ∷ (no_publisher p, Err OutOfRange)
+    ∷ (same n.0 (pos 0), Err NumberZero)
+    ∷ (not (eqb (seek (is_front t.numbers t.places l n) (slots (used t))) 64), Err InFlightAlready)
     ∷ [])
-    (load_refusal ms p)
+    (check_load t.masks p)
 
 -- a table with one request more, in slot s, behind all others in the order
 abbrev pub placed : Table → ℕ → FrontNumber → ℕ → ℕ → PublisherNumber → Table
@@ -42,16 +44,15 @@ placed t l n p s g =
 -- with 33
 unfoldable pub old_ask_of : Table → ℕ → FrontNumber → ℕ → Asked
 old_ask_of t l n p =
-    pick (eqb (ask_refusal_of t.masks t.numbers t.places l n p) 0)
+    asked_after t (check_ask_of t l n p)
     (pick (leb 64 (lowest_free (used t)))
-    (record { table = t; answer = A.Refused 33 })
-    (record { table = placed t l n p (lowest_free (used t)) (given_of t p); answer = A.Accepted (given_of t p) }))
-    (record { table = t; answer = A.Refused (ask_refusal_of t.masks t.numbers t.places l n p) })
+    (record { table = t; answer = Err CapacityGone })
+    (record { table = placed t l n p (lowest_free (used t)) (given_of t p); answer = Ok (given_of t p) }))
 
 -- whether an ask was accepted
-abbrev pub accepted : AskAnswer → Bool
-accepted (A.Accepted x) = true
-accepted (A.Refused k) = false
+abbrev pub accepted : Result PublisherNumber Refusal → Bool
+accepted (Ok x) = true
+accepted (Err k) = false
 
 -- the claim: on any contents of the table, for every link, number and publisher
 pub record OldAsk (t : Table) (l : ℕ) (n : FrontNumber) (p : ℕ) : Type 0 where

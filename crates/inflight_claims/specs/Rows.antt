@@ -9,11 +9,9 @@ use Rattle.inflight.specs.declared.FrontNumber.{FrontNumber}
 use Rattle.inflight.specs.declared.PublisherNumber.{PublisherNumber}
 use Rattle.inflight.specs.declared.Peer.{Peer}
 use Rattle.inflight.specs.declared.Peer.TheVariants as P
-use Rattle.inflight.specs.declared.AskAnswer.TheVariants as A
-use Rattle.inflight.specs.declared.ReplyAnswer.TheVariants as R
-use Rattle.inflight.specs.declared.CancelAnswer.TheVariants as C
-use Rattle.inflight.specs.declared.DropAnswer.TheVariants as D
 use Rattle.inflight_claims.specs.ListClaim.{Valid, Capacity}
+use Rattle.std.specs.Prelude.{Ok, Err}
+use Rattle.refusal.specs.declared.Refusal.TheVariants.{OutOfRange, NumberZero, InFlightAlready, NoSuchRequest, BufferTooSmall}
 
 -- no request that a key matches is in flight
 abbrev pub None : Key → Model → Type 0
@@ -22,45 +20,45 @@ None k m = length (matching k m.requests) ≡ 0
 -- ask: 30, 12, 31; where none of them applies the ask is valid, and is refused with 32 or 33, or accepted, as
 -- `Capacity` says
 pub record AskRows (m : Model) (l : ℕ) (n : FrontNumber) (p time : ℕ) : Type 0 where
-  pub link : 32 ≤ l → ask_answer m l n p time ≡ A.Refused 30
-  pub publisher : 8 ≤ p → ask_answer m l n p time ≡ A.Refused 30
-  pub clock : 4611686018427387904 ≤ time → ask_answer m l n p time ≡ A.Refused 30
-  pub zero : l < 32 → p < 8 → time < 4611686018427387904 → n.0 ≡ pos 0 → ask_answer m l n p time ≡ A.Refused 12
+  pub link : 32 ≤ l → ask_answer m l n p time ≡ Err OutOfRange
+  pub publisher : 8 ≤ p → ask_answer m l n p time ≡ Err OutOfRange
+  pub clock : 4611686018427387904 ≤ time → ask_answer m l n p time ≡ Err OutOfRange
+  pub zero : l < 32 → p < 8 → time < 4611686018427387904 → n.0 ≡ pos 0 → ask_answer m l n p time ≡ Err NumberZero
   pub own : l < 32 → p < 8 → time < 4611686018427387904 → (n.0 ≡ pos 0 → ⊥) → (None (Cancel l n) m → ⊥)
-      → ask_answer m l n p time ≡ A.Refused 31
+      → ask_answer m l n p time ≡ Err InFlightAlready
   pub valid : Valid m l n p time → Capacity m l n p time
 
 -- reply: 30, 12, 34, and else the request's link and front number
 pub record ReplyRows (m : Model) (p : ℕ) (n : PublisherNumber) : Type 0 where
-  pub range : 8 ≤ p → reply_answer m p n ≡ R.Refused 30
-  pub zero : p < 8 → n.0 ≡ pos 0 → reply_answer m p n ≡ R.Refused 12
-  pub none : p < 8 → (n.0 ≡ pos 0 → ⊥) → None (Reply p n) m → reply_answer m p n ≡ R.Refused 34
+  pub range : 8 ≤ p → reply_answer m p n ≡ Err OutOfRange
+  pub zero : p < 8 → n.0 ≡ pos 0 → reply_answer m p n ≡ Err NumberZero
+  pub none : p < 8 → (n.0 ≡ pos 0 → ⊥) → None (Reply p n) m → reply_answer m p n ≡ Err NoSuchRequest
   pub one : p < 8 → (n.0 ≡ pos 0 → ⊥) → (None (Reply p n) m → ⊥)
-      → reply_answer m p n ≡ R.Front (matched m (Reply p n)).link (matched m (Reply p n)).front
+      → reply_answer m p n ≡ Ok (record { link = (matched m (Reply p n)).link; number = (matched m (Reply p n)).front })
 
 -- cancel: 30, 12, 34, and else the request's publisher and publisher number
 pub record CancelRows (m : Model) (l : ℕ) (n : FrontNumber) : Type 0 where
-  pub range : 32 ≤ l → cancel_answer m l n ≡ C.Refused 30
-  pub zero : l < 32 → n.0 ≡ pos 0 → cancel_answer m l n ≡ C.Refused 12
-  pub none : l < 32 → (n.0 ≡ pos 0 → ⊥) → None (Cancel l n) m → cancel_answer m l n ≡ C.Refused 34
+  pub range : 32 ≤ l → cancel_answer m l n ≡ Err OutOfRange
+  pub zero : l < 32 → n.0 ≡ pos 0 → cancel_answer m l n ≡ Err NumberZero
+  pub none : l < 32 → (n.0 ≡ pos 0 → ⊥) → None (Cancel l n) m → cancel_answer m l n ≡ Err NoSuchRequest
   pub one : l < 32 → (n.0 ≡ pos 0 → ⊥) → (None (Cancel l n) m → ⊥)
-      → cancel_answer m l n ≡ C.Publisher (matched m (Cancel l n)).publisher (matched m (Cancel l n)).number
+      → cancel_answer m l n ≡ Ok (record { publisher = (matched m (Cancel l n)).publisher; number = (matched m (Cancel l n)).number })
 
 -- gone, by the peer, its number and its side's limit: 30, 16, and else the count
 pub record GoneRows (m : Model) (peer : Peer) (limit x : ℕ) (out : List ℤ) : Type 0 where
-  pub range : limit ≤ x → gone_answer m peer out ≡ D.Refused 30
+  pub range : limit ≤ x → gone_answer m peer out ≡ Err OutOfRange
   pub short : x < limit → length out < 2 * length (matching (key_of peer) m.requests)
-      → gone_answer m peer out ≡ D.Refused 16
+      → gone_answer m peer out ≡ Err BufferTooSmall
   pub all : x < limit → 2 * length (matching (key_of peer) m.requests) ≤ length out
-      → gone_answer m peer out ≡ D.Count (length (matching (key_of peer) m.requests))
+      → gone_answer m peer out ≡ Ok (length (matching (key_of peer) m.requests))
 
 -- run out: 30, 16, and else the count
 pub record RunOutRows (m : Model) (time : ℕ) (out : List ℤ) : Type 0 where
-  pub clock : 4611686018427387904 ≤ time → run_out_answer m time out ≡ D.Refused 30
+  pub clock : 4611686018427387904 ≤ time → run_out_answer m time out ≡ Err OutOfRange
   pub short : time < 4611686018427387904 → length out < 2 * length (matching (run_out_key m time) m.requests)
-      → run_out_answer m time out ≡ D.Refused 16
+      → run_out_answer m time out ≡ Err BufferTooSmall
   pub all : time < 4611686018427387904 → 2 * length (matching (run_out_key m time) m.requests) ≤ length out
-      → run_out_answer m time out ≡ D.Count (length (matching (run_out_key m time) m.requests))
+      → run_out_answer m time out ≡ Ok (length (matching (run_out_key m time) m.requests))
 
 pub record Rows (m : Model) : Type 0 where
   pub ask : (l : ℕ) (n : FrontNumber) (p time : ℕ) → AskRows m l n p time

@@ -9,30 +9,31 @@ use Rattle.std.proofs.Common.{SFits}
 use Rattle.inflight.specs.Matching.{load}
 use Rattle.inflight.specs.Masks.{bit_at, lowest_free}
 use Rattle.inflight.specs.Model.{empty}
-use Rattle.inflight.specs.Tables.{Table, Sized, used, load_of, fresh_of}
+use Rattle.inflight.specs.Tables.{Sized, used, load_of, fresh_of}
+use Rattle.inflight.specs.declared.Table.{Table}
 use Rattle.inflight.specs.Calls.{Call, table_after, table_at, model_at}
 use Rattle.inflight.specs.declared.PublisherNumber.{PublisherNumber}
-use Rattle.inflight.specs.declared.FreshAnswer.TheVariants as F
+use Rattle.std.specs.Prelude.{Ok}
 
 -- "a load is the count of ones in the publisher's mask", and is the model's load: for every table whose arrays have
 -- their sizes, whatever they hold, every first number that fresh accepts, every list of calls and every publisher
 abbrev pub LoadsByMasks : Type 0
 LoadsByMasks =
-    (t : Table) → Sized t → (first : PublisherNumber) → SFits w64 first.0 → (fresh_of t first).answer ≡ F.Ready
+    (t : Table) → Sized t → (first : PublisherNumber) → SFits w64 first.0 → (fresh_of t first).answer ≡ Ok tt
     → (cs : List Call) (p : ℕ) → p < 8
     → load_of (table_at (fresh_of t first).table cs).masks p ≡ load (model_at (empty first) cs).requests p
 
 -- and the used mask has as many ones as requests are in flight
 abbrev pub UsedByMask : Type 0
 UsedByMask =
-    (t : Table) → Sized t → (first : PublisherNumber) → SFits w64 first.0 → (fresh_of t first).answer ≡ F.Ready
+    (t : Table) → Sized t → (first : PublisherNumber) → SFits w64 first.0 → (fresh_of t first).answer ≡ Ok tt
     → (cs : List Call)
     → ones (used (table_at (fresh_of t first).table cs)) ≡ length (model_at (empty first) cs).requests
 
 -- and the latest time that the table keeps is the one that the model has seen
 abbrev pub SeenByTimes : Type 0
 SeenByTimes =
-    (t : Table) → Sized t → (first : PublisherNumber) → SFits w64 first.0 → (fresh_of t first).answer ≡ F.Ready
+    (t : Table) → Sized t → (first : PublisherNumber) → SFits w64 first.0 → (fresh_of t first).answer ≡ Ok tt
     → (cs : List Call)
     → get_or (table_at (fresh_of t first).table cs).times 64 0 ≡ (model_at (empty first) cs).seen
 

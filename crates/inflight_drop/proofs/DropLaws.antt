@@ -1,39 +1,39 @@
--- What is left of the requests in the slots of a mask, part by part.
+-- What is left of the requests in the slots of a mask.
 -- Assumes nothing.
-use mathlib.Core.Path.{◌≡◌}
+use mathlib.Core.Path.{◌≡◌, ap, ◌∙◌}
 use Prim.Native.Nat.{ℕ, ◌*◌, ◌≤◌, ◌<◌}
 use mathlib.Core.List.{List}
 use lib.IntN.{ℤ}
 use lib.Count.{ones}
 use lib.ListN.{length, take, replicate}
 use borrow.Author.Tests.{lt-ltb, le-ltb}
-use Rattle.inflight.specs.declared.DropAnswer.TheVariants as D
+use Rattle.std.specs.Prelude.{Ok, Err}
+use Rattle.refusal.specs.declared.Refusal.TheVariants.{BufferTooSmall}
 use Rattle.inflight.specs.Matching.{over_front}
-use Rattle.inflight.specs.Masks.{slots, within, outside, laid_out, placed_anew}
-use Rattle.inflight.specs.Tables.{Table, table_of, used, line, struck, leaving, ends_of, Dropped, drop_of}
+use Rattle.inflight.specs.Masks.{slots, within, laid_out}
+use Rattle.inflight.specs.Tables.{used, line, struck, struck_from, leaving, ends_of, drop_of}
+use Rattle.inflight.specs.declared.Table.{Table}
 
 -- the line that is laid out is the table's
-pub leaving-eq : (t : Table) (mask : ℕ) {n : ℕ} {xs : List ℕ} → n ≡ ones (used t) → xs ≡ laid_out t.order (slots (used t)) (replicate 64 0) → within mask (take n xs) ≡ leaving t mask
-unfolding line
-leaving-eq t mask e q = rw (e, q)
+module _ (t : Table) (mask : ℕ) {xs : List ℕ} (laid : xs ≡ laid_out t.order (slots (used t)) (replicate 64 0)) where
+  line-eq : take (ones (used t)) xs ≡ line t
+  unfolding line
+  line-eq = rw laid
 
--- and so are the places of those that stay
-pub staying-eq : (t : Table) (mask : ℕ) {xs : List ℕ} → xs ≡ laid_out t.order (slots (used t)) (replicate 64 0)
-    → placed_anew (outside mask (take (ones (used t)) xs)) 0 t.order ≡ placed_anew (outside mask (line t)) 0 t.order
-unfolding line
-staying-eq t mask q = rw q
+  pub leaving-eq : {n : ℕ} → n ≡ ones (used t) → within mask (take n xs) ≡ leaving t mask
+  leaving-eq e = ap (λ (k : ℕ). within mask (take k xs)) e ∙ ap (within mask) line-eq
+
+  pub struck-eq : struck_from t (take (ones (used t)) xs) mask ≡ struck t mask
+  unfolding struck
+  struck-eq = ap (λ (l : List ℕ). struck_from t l mask) line-eq
 
 module _ (t : Table) (mask base : ℕ) (out : List ℤ) where
-  pub drop-no : length out < 2 * length (leaving t mask) → drop_of t mask base out ≡ record { table = t; answer = D.Refused 16; slice = out }
+  pub drop-no : length out < 2 * length (leaving t mask) → drop_of t mask base out ≡ record { table = t; answer = Err BufferTooSmall; slice = out }
   unfolding drop_of
   drop-no h = rw (lt-ltb (length out) (2 * length (leaving t mask)) h)
 
   pub drop-yes : 2 * length (leaving t mask) ≤ length out
       → drop_of t mask base out
-      ≡ record { table = struck t mask; answer = D.Count (length (leaving t mask)); slice = over_front (ends_of t.numbers t.places base (leaving t mask)) out }
+      ≡ record { table = struck t mask; answer = Ok (length (leaving t mask)); slice = over_front (ends_of t.numbers t.places base (leaving t mask)) out }
   unfolding drop_of
   drop-yes h = rw (le-ltb (length out) (2 * length (leaving t mask)) h)
-
-pub drop-eq : {m m' : List ℕ} (ns : List ℤ) (ps ts : List ℕ) {o o' : List ℕ} {k k' : ℕ} {z z' : List ℤ} → m ≡ m' → o ≡ o' → k ≡ k' → z ≡ z'
-    → ◌≡◌ {A = Dropped} (record { table = table_of m ns ps o ts; answer = D.Count k; slice = z }) (record { table = table_of m' ns ps o' ts; answer = D.Count k'; slice = z' })
-drop-eq ns ps ts p q r s = rw (p, q, r, s)

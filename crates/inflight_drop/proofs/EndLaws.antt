@@ -8,10 +8,7 @@ use mathlib.Core.Bool.{Bool, true, false}
 use mathlib.Core.List.{List, [], ◌∷◌, ◌++◌, append_assoc, append-nil}
 use lib.IntN.{ℤ, pos}
 use lib.ListN.{length, take, drop, get_or, set, length-append}
-use mir.Syntax.{w64}
-use mir.Val.{to_z}
-use mir.Facts.{to_z-of_z}
-use lib.Seq.{take-suc, take-add}
+use lib.Seq.{take-suc, take-add, take_all}
 use Rattle.wire.specs.Choice.{pick}
 use Rattle.inflight.specs.Masks.{has, within}
 use Rattle.inflight.specs.Matching.{over_front}
@@ -52,11 +49,12 @@ within-most g xs m n h =
     omega arith
 
 -- where the byte at i is one, the slice has room for its two numbers
-pub room_for : (g : ℕ) (xs : List ℕ) (i n at m : ℕ) → i < n → n ≤ length xs → has g (get_or xs i 0) ≡ true → at ≡ 2 * length (within g (take i xs)) → 2 * length (within g (take n xs)) ≤ m → at + 2 ≤ m
-room_for g xs i n at m h l e p q =
-    let w = within-most g xs (i + 1) n (omega arith) in
-    let y : length (within g (take (i + 1) xs)) ≡ length (within g (take i xs)) + 1 = ap length (within-yes g xs i (omega arith) e) ∙ length-append (within g (take i xs)) (get_or xs i 0 ∷ []) in
-    omega (arith, w, y, p, q)
+pub room_for : (g : ℕ) (xs : List ℕ) (i at m : ℕ) → i < length xs → has g (get_or xs i 0) ≡ true → at ≡ 2 * length (within g (take i xs)) → 2 * length (within g xs) ≤ m → at + 2 ≤ m
+room_for g xs i at m l e p q =
+    let w = within-most g xs (i + 1) (length xs) (omega arith) in
+    let z : length (within g (take (length xs) xs)) ≡ length (within g xs) = ap (λ (l : List ℕ). length (within g l)) (take_all (length xs) xs (omega arith)) in
+    let y : length (within g (take (i + 1) xs)) ≡ length (within g (take i xs)) + 1 = ap length (within-yes g xs i l e) ∙ length-append (within g (take i xs)) (get_or xs i 0 ∷ []) in
+    omega (arith, w, y, z, p, q)
 
 module _ (ns : List ℤ) (ps : List ℕ) (base : ℕ) where
   pub ends-append : (a b : List ℕ) → ends_of ns ps base (a ++ b) ≡ ends_of ns ps base a ++ ends_of ns ps base b
@@ -78,7 +76,3 @@ over-two E o a b h =
     let s2 : set ((E ++ a ∷ []) ++ drop (n + 1) o) (n + 1) b ≡ ((E ++ a ∷ []) ++ b ∷ []) ++ drop (n + 1 + 1) o = put_next (E ++ a ∷ []) o (n + 1) b (pos 0) l1 h in
     let l2 : length (E ++ a ∷ b ∷ []) ≡ n + 1 + 1 = length-append E (a ∷ b ∷ []) ∙ omega arith in
     rw s1 (s2 ∙ rw (l2, append_assoc E (a ∷ []) (b ∷ [])))
-
--- a number below 2 ^ 63 is its own bits
-pub small : (n : ℕ) → n < 256 → to_z w64 n ≡ pos n
-small n h = to_z-of_z {w = w64} {z = pos n} (record { sfits = omega arith })

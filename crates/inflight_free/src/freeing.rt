@@ -1,19 +1,11 @@
 // Masks without some slots, and the places of the others in the order of acceptance.
-ghost use Rattle.std.specs.Prelude.{◌≡◌, map, ◌^◌, ◌%◌, ◌≤◌, length, take, get_or};
+ghost use Rattle.std.specs.Prelude.{◌≡◌, map, ◌^◌, ◌%◌, ◌≤◌, take};
 ghost use Rattle.std.specs.Int.Count.{ones};
 ghost use Rattle.inflight.specs.Masks.{outside, closed_up, placed_anew};
-ghost use Rattle.inflight.specs.Tables.{cut_all};
+ghost use Rattle.inflight.specs.Tables.{cut_all, freed, struck_from, used};
 
+use inflight::Table;
 use inflight_slots::{bit, count, holds};
-
-// What the type says of a lent array's length, for the proofs: it compiles to nothing.
-fn sized_order(a: [u8; 64])
-    ensures { length a ≡ 64 }
-{}
-
-fn sized_masks(a: [u64; 9])
-    ensures { length a ≡ 9 }
-{}
 
 // The place of a slot after place a is free: those behind it come one forward.
 fn closed_up(a: u8, x: u8) -> u8
@@ -27,11 +19,8 @@ fn closed_up(a: u8, x: u8) -> u8
 fn close_up(order: &mut [u8; 64], a: u8)
     ensures { order.new ≡ map (closed_up a) order.old }
 {
-    sized_order(*order);
-    let mut i: usize = 0;
-    while i < 64 {
-        order[i] = closed_up(a, order[i]);
-        i += 1;
+    for x in order.iter_mut() {
+        *x = closed_up(a, *x);
     }
 }
 
@@ -41,14 +30,10 @@ fn place_anew(order: &mut [u8; 64], line: &[u8; 64], n: usize, mask: u64)
     ensures { order.new
         ≡ placed_anew (outside mask (take n line.now)) 0 order.old }
 {
-    sized_order(*line);
-    let mut i: usize = 0;
-    let mut k: usize = 0;
-    while i < n {
-        let x = line[i];
-        i += 1;
+    let mut k: u8 = 0;
+    for &x in line[..n].iter() {
         if !holds(mask, x) {
-            order[(x % 64) as usize] = k as u8;
+            order[(x % 64) as usize] = k;
             k += 1;
         }
     }
@@ -58,34 +43,26 @@ fn place_anew(order: &mut [u8; 64], line: &[u8; 64], n: usize, mask: u64)
 fn cut_all(masks: &mut [u64; 9], mask: u64)
     ensures { masks.new ≡ cut_all mask masks.old }
 {
-    sized_masks(*masks);
-    let keep = !mask;
-    let mut i: usize = 0;
-    while i < 9 {
-        masks[i] = masks[i] & keep;
-        i += 1;
+    for m in masks.iter_mut() {
+        *m &= !mask;
     }
 }
 
 // One slot is freed.
-pub fn free(masks: &mut [u64; 9], order: &mut [u8; 64], s: usize)
-    ensures { (masks.new ≡ cut_all (2 ^ (s % 64)) masks.old)
-        × (order.new ≡ map (closed_up (get_or order.old (s % 64) 0)) order.old) }
+pub fn free(table: &mut Table, s: usize)
+    ensures { table.new ≡ freed table.old (s % 64) }
 {
-    let a = order[s % 64];
-    close_up(order, a);
-    cut_all(masks, bit(s));
+    let a = table.order[s % 64];
+    close_up(&mut table.order, a);
+    cut_all(&mut table.masks, bit(s));
 }
 
 // The slots of a mask are freed. Of the first bytes of a line, as many as slots are used, those that stay take their
 // places anew. The line is the caller's: the used slots by their places, laid out to list those that leave.
-pub fn strike(masks: &mut [u64; 9], order: &mut [u8; 64], line: &[u8; 64], mask: u64)
-    ensures { (masks.new ≡ cut_all mask masks.old)
-        × (order.new
-        ≡ placed_anew (outside mask (take (ones (get_or masks.old 0 0)) line.now))
-        0 order.old) }
+pub fn strike(table: &mut Table, line: &[u8; 64], mask: u64)
+    ensures { table.new ≡ struck_from table.old (take (ones (used table.old)) line.now) mask }
 {
-    let n = count(masks[0]);
-    place_anew(order, line, n, mask);
-    cut_all(masks, mask);
+    let n = count(table.masks[0]);
+    place_anew(&mut table.order, line, n, mask);
+    cut_all(&mut table.masks, mask);
 }

@@ -4,7 +4,7 @@ ghost use Rattle.inflight.specs.Masks.{slots, seek};
 ghost use Rattle.inflight.specs.Tables.{is_front};
 ghost use Rattle.inflight_fronts.specs.Four.{none_of, first_of_four};
 
-use inflight::{FrontNumber, same_front};
+use inflight::FrontNumber;
 
 // Whether the request in slot i has a link and a front number, and the lowest bit of m is set.
 fn front_at(
@@ -18,8 +18,7 @@ fn front_at(
     requires { i < 64 }
     ensures { result ≡ (eqb (m % 2) 1 && is_front numbers.now places.now link n i) }
 {
-    let x = numbers[i];
-    if !same_front(FrontNumber(x), n) {
+    if FrontNumber(numbers[i]) != n {
         return false;
     }
     if places[i] != link {
@@ -33,19 +32,43 @@ fn none_of_four(numbers: &[i64; 136], i: usize, n: FrontNumber) -> bool
     requires { i + 3 < 64 }
     ensures { result ≡ none_of numbers.now n i }
 {
-    let a = numbers[i];
-    let b = numbers[i + 1];
-    let c = numbers[i + 2];
-    let d = numbers[i + 3];
-    let first = same_front(FrontNumber(a), n);
-    let second = same_front(FrontNumber(b), n);
-    let third = same_front(FrontNumber(c), n);
-    let fourth = same_front(FrontNumber(d), n);
+    let first = FrontNumber(numbers[i]) == n;
+    let second = FrontNumber(numbers[i + 1]) == n;
+    let third = FrontNumber(numbers[i + 2]) == n;
+    let fourth = FrontNumber(numbers[i + 3]) == n;
     !(first | second | third | fourth)
 }
 
-// The first of four slots that the lowest bits of m have and whose request has a link and a front number; 64 where
-// there is none.
+// The first of four slots that the lowest bits of m have and whose request has a link and a front number, looked at one
+// by one; 64 where there is none. It is not inlined: beside the one test for all four, the compiler would break that up.
+#[inline(never)]
+fn one_of_four(
+    numbers: &[i64; 136],
+    places: &[u8; 128],
+    i: usize,
+    m: u64,
+    link: u8,
+    n: FrontNumber,
+) -> usize
+    requires { i + 3 < 64 }
+    ensures { result ≡ first_of_four (is_front numbers.now places.now link n) m i }
+{
+    if front_at(numbers, places, i, m, link, n) {
+        return i;
+    }
+    if front_at(numbers, places, i + 1, m / 2, link, n) {
+        return i + 1;
+    }
+    if front_at(numbers, places, i + 2, m / 4, link, n) {
+        return i + 2;
+    }
+    if front_at(numbers, places, i + 3, m / 8, link, n) {
+        return i + 3;
+    }
+    64
+}
+
+// The same: most often none of the four has the number, and that is one test.
 fn front_of_four(
     numbers: &[i64; 136],
     places: &[u8; 128],
@@ -60,19 +83,7 @@ fn front_of_four(
     if none_of_four(numbers, i, n) {
         return 64;
     }
-    if front_at(numbers, places, i, m, link, n) {
-        return i;
-    }
-    if front_at(numbers, places, i + 1, m / 2, link, n) {
-        return i + 1;
-    }
-    if front_at(numbers, places, i + 2, m / 4, link, n) {
-        return i + 2;
-    }
-    if front_at(numbers, places, i + 3, m / 8, link, n) {
-        return i + 3;
-    }
-    64
+    one_of_four(numbers, places, i, m, link, n)
 }
 
 // The first slot of a mask whose request has a link and a front number; 64 where there is none. A front link's

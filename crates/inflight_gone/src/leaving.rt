@@ -1,12 +1,12 @@
 // Gone: the refusals in their order, and the slots of a peer's requests.
-ghost use Rattle.std.specs.Prelude.{◌≡◌, false, List, ℕ};
+ghost use Rattle.std.specs.Prelude.{◌≡◌, false};
 ghost use Rattle.inflight.specs.Model.{no_peer};
-ghost use Rattle.inflight.specs.Tables.{table_of, ends_at, Dropped, slots_of, other_at, gone_of};
+ghost use Rattle.inflight.specs.Tables.{ends_at, slots_of, other_at, gone_of};
 
-use inflight::{DropAnswer, Peer};
+use inflight::{Peer, Table};
 use inflight_drop::drop_slots;
 use inflight_slots::find_link;
-use refusal::OUT_OF_RANGE;
+use refusal::Refusal;
 
 // Whether a peer's number is out of its side's range.
 fn no_peer(peer: Peer) -> bool
@@ -40,29 +40,15 @@ fn to_publishers(peer: Peer) -> bool
 }
 
 // A peer is gone, a front link that closed or a publisher that was lost: frees all its requests and writes the other
-// end of each, publisher and publisher number for a link, link and front number for a publisher. Whatever the times ts
-// are, it neither reads nor changes them.
-pub fn gone(
-    masks: &mut [u64; 9],
-    numbers: &[i64; 136],
-    places: &[u8; 128],
-    order: &mut [u8; 64],
-    peer: Peer,
-    out: &mut [i64],
-) -> DropAnswer
-    ensures { (ts : List ℕ) → ◌≡◌ {A = Dropped} (record {
-      table = table_of masks.new numbers.now
-          places.now order.new ts;
-      answer = result;
-      slice = out.new;
-    })
-        (gone_of (table_of masks.old numbers.now places.now
-        order.old ts) peer out.old) }
+// end of each, publisher and publisher number for a link, link and front number for a publisher.
+pub fn gone(table: &mut Table, peer: Peer, out: &mut [i64]) -> Result<usize, Refusal>
+    ensures { (result ≡ (gone_of table.old peer out.old).answer)
+        × (table.new ≡ (gone_of table.old peer out.old).table)
+        × (out.new ≡ (gone_of table.old peer out.old).slice) }
 {
     if no_peer(peer) {
-        return DropAnswer::Refused(OUT_OF_RANGE);
+        return Err(Refusal::OutOfRange);
     }
-    let mask = peer_slots(masks, places, peer);
-    let publishers = to_publishers(peer);
-    drop_slots(masks, numbers, places, order, mask, publishers, out)
+    let mask = peer_slots(&table.masks, &table.places, peer);
+    drop_slots(table, mask, to_publishers(peer), out)
 }

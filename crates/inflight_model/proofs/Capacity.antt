@@ -13,12 +13,15 @@ use borrow.Author.Tests.{eqb-true, eqb-false, eq-eqb, ne_eqb, leb-false, not-fal
 use Rattle.wire.specs.Choice.{pick}
 use Rattle.inflight.specs.Numbers.{same}
 use Rattle.inflight.specs.Matching.{matches, matching, without, load, capacity_taken, sum_below}
-use Rattle.inflight.specs.Model.{Model, ask_refusal}
+use Rattle.inflight.specs.Model.{Model, check_ask}
 use Rattle.inflight.specs.declared.FrontNumber.{FrontNumber}
 use Rattle.inflight.specs.Requests.{Request}
 use Rattle.inflight.specs.Requests.{Key}
 use Rattle.inflight.specs.Requests.{Cancel, Lost}
 use Rattle.inflight.proofs.MatchLaws.{matching-append}
+use Rattle.refusal.specs.declared.Refusal.{Refusal}
+use Rattle.refusal.specs.declared.Refusal.TheVariants.{OutOfRange, NumberZero, InFlightAlready, LoadAtLimit, CapacityGone}
+use Rattle.std.specs.Prelude.{Result, Ok, Err, ⊤}
 
 -- ---- sums
 
@@ -145,15 +148,17 @@ below_length (more {e} {es} h b) =
 -- ---- what an accepted ask says of link, publisher, time, number, loads and capacity
 
 rows : (a b t c d e f : Bool)
-    → ◌≡◌ {A = ℕ} (pick a 30 (pick b 30 (pick t 30 (pick c 12 (pick d 31 (pick e 32 (pick f 33 0))))))) 0
+    → ◌≡◌ {A = Result ⊤ Refusal}
+    (pick a (Err OutOfRange) (pick b (Err OutOfRange) (pick t (Err OutOfRange) (pick c (Err NumberZero)
+    (pick d (Err InFlightAlready) (pick e (Err LoadAtLimit) (pick f (Err CapacityGone) (Ok tt)))))))) (Ok tt)
     → (a ≡ false) × (b ≡ false) × (t ≡ false) × (c ≡ false) × (d ≡ false) × (e ≡ false) × (f ≡ false)
-rows true b t c d e f h = absurd (omega arith)
-rows false true t c d e f h = absurd (omega arith)
-rows false false true c d e f h = absurd (omega arith)
-rows false false false true d e f h = absurd (omega arith)
-rows false false false false true e f h = absurd (omega arith)
-rows false false false false false true f h = absurd (omega arith)
-rows false false false false false false true h = absurd (omega arith)
+rows true b t c d e f h = cc
+rows false true t c d e f h = cc
+rows false false true c d e f h = cc
+rows false false false true d e f h = cc
+rows false false false false true e f h = cc
+rows false false false false false true f h = cc
+rows false false false false false false true h = cc
 rows false false false false false false false h = (refl, refl, refl, refl, refl, refl, refl)
 
 either : (a b : Bool) → a && b ≡ false → (a ≡ false) ⊎ (b ≡ false)
@@ -169,9 +174,9 @@ pub record Accepts (es : List Request) (l : ℕ) (n : FrontNumber) (p time : ℕ
   pub under : load es p < 16
   pub reason : (load es p < 4) ⊎ (capacity_taken es ≡ 64 → ⊥)
 
-pub accepts : (m : Model) (l : ℕ) (n : FrontNumber) (p time : ℕ) → ask_refusal m l n p time ≡ 0
+pub accepts : (m : Model) (l : ℕ) (n : FrontNumber) (p time : ℕ) → check_ask m l n p time ≡ Ok tt
     → Accepts m.requests l n p time
-unfolding ask_refusal
+unfolding check_ask
 accepts m l n p time e =
     let es = m.requests in
     let r = rows (leb 32 l) (leb 8 p) (leb 4611686018427387904 time) (same n.0 (pos 0)) (not (eqb (length (matching (Cancel l n) es)) 0)) (leb 16 (load es p)) (leb 4 (load es p) && eqb (capacity_taken es) 64) e in

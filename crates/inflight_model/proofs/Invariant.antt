@@ -16,7 +16,7 @@ use Rattle.wire.specs.Choice.{pick}
 use Rattle.inflight.specs.Numbers.{same, after}
 use Rattle.inflight.proofs.NumberLaws.{same_true, eq-same, ne_same}
 use Rattle.inflight.specs.Matching.{matches, matching, without, next_free}
-use Rattle.inflight.specs.Model.{Model, ask_refusal, take_refusal, drop_refusal, given, entry}
+use Rattle.inflight.specs.Model.{Model, check_ask, check_take, check_drop, given, entry}
 use Rattle.inflight.specs.Model as M
 use Rattle.inflight.specs.Calls.{Call, ask, reply, cancel, gone, run_out, model_after, model_at}
 use Rattle.inflight.specs.declared.FrontNumber.{FrontNumber}
@@ -28,6 +28,10 @@ use Rattle.inflight.proofs.MatchLaws.{matching-append}
 use Rattle.inflight_model.proofs.Capacity.{Bounded, accepts, bounded-none, bounded-space, bounded-snoc}
 use Rattle.inflight_model.proofs.Capacity.{bounded-without}
 use Rattle.inflight_model.proofs.Flight.{top, given-new}
+use Rattle.refusal.specs.declared.Refusal.TheVariants.{OutOfRange, BufferTooSmall}
+use Rattle.refusal.specs.declared.Refusal.{Refusal}
+use Rattle.std.specs.Prelude.{Result, Ok, Err, is_ok, ⊤}
+use Rattle.inflight.proofs.CheckLaws.{passes}
 
 -- a number from 1 to the largest
 pub record Ranged (n : PublisherNumber) : Type 0 where
@@ -170,14 +174,14 @@ next-ranged b p q f g h = go (eqb q p) refl
 inv-ask : (b : Model) (l : ℕ) (n : FrontNumber) (p time timeout : ℕ) → Invariant b
     → Invariant (M.ask b l n p time timeout)
 unfolding M.ask M.accept
-inv-ask b l n p time timeout f = go (eqb (ask_refusal b l n p time) 0) refl
+inv-ask b l n p time timeout f = go (is_ok (check_ask b l n p time)) refl
   where
-    go : (x : Bool) → eqb (ask_refusal b l n p time) 0 ≡ x → Invariant (pick x (M.accept b l n p time timeout) b)
+    go : (x : Bool) → is_ok (check_ask b l n p time) ≡ x → Invariant (pick x (M.accept b l n p time timeout) b)
     go false e = f
     go true e =
         let es = b.requests in
         let E = entry b l n p time timeout in
-        let r = accepts b l n p time (eqb-true (ask_refusal b l n p time) 0 e) in
+        let r = accepts b l n p time (passes (check_ask b l n p time) e) in
         let w = bounded-space es p f.bounded r in
         let new = not-in-flight b p f r.range (omega arith) in
         record {
@@ -197,30 +201,30 @@ inv-removed : (b : Model) (k : Key) → Invariant b → Invariant (M.remove b k)
 inv-removed b k f = inv-remove b k b.seen f f.seen
 
 -- a run-out that is not refused has a time in range
-in-range : (a b : Bool) → ◌≡◌ {A = ℕ} (pick a 30 (pick b 16 0)) 0 → a ≡ false
-in-range true b e = absurd (omega arith)
+in-range : (a b : Bool) → ◌≡◌ {A = Result ⊤ Refusal} (pick a (Err OutOfRange) (pick b (Err BufferTooSmall) (Ok tt))) (Ok tt) → a ≡ false
+in-range true b e = cc
 in-range false b e = refl
 
 inv-run-out : (b : Model) (time : ℕ) (out : List ℤ) → Invariant b → Invariant (M.run_out b time out)
-unfolding M.run_out drop_refusal
-inv-run-out b time out f = go (eqb (drop_refusal b (M.no_time time) (M.run_out_key b time) out) 0) refl
+unfolding M.run_out check_drop
+inv-run-out b time out f = go (is_ok (check_drop b (M.no_time time) (M.run_out_key b time) out)) refl
   where
-    go : (x : Bool) → eqb (drop_refusal b (M.no_time time) (M.run_out_key b time) out) 0 ≡ x
+    go : (x : Bool) → is_ok (check_drop b (M.no_time time) (M.run_out_key b time) out) ≡ x
         → Invariant (pick x (record { requests = without (M.run_out_key b time) b.requests; next = b.next; seen = max b.seen time }) b)
     go false e = f
     go true e =
         let short : Bool = ltb (length out) (2 * length (matching (M.run_out_key b time) b.requests)) in
-        let no : ℕ = drop_refusal b (M.no_time time) (M.run_out_key b time) out in
-        let r = leb-false 4611686018427387904 time (in-range (M.no_time time) short (eqb-true no 0 e)) in
+        let no = check_drop b (M.no_time time) (M.run_out_key b time) out in
+        let r = leb-false 4611686018427387904 time (in-range (M.no_time time) short (passes no e)) in
         inv-remove b (M.run_out_key b time) (max b.seen time) f (omega (arith, f.seen, r))
 
 pub inv-call : (b : Model) (c : Call) → Invariant b → Invariant (model_after b c)
 unfolding M.taken M.dropped
 inv-call b (ask l n p time timeout) f = inv-ask b l n p time timeout f
-inv-call b (reply p n) f = inv-pick (eqb (take_refusal b (M.no_publisher p) n.0 (Reply p n)) 0) _ b (inv-removed b (Reply p n) f) f
-inv-call b (cancel l n) f = inv-pick (eqb (take_refusal b (M.no_link l) n.0 (Cancel l n)) 0) _ b (inv-removed b (Cancel l n) f) f
+inv-call b (reply p n) f = inv-pick (is_ok (check_take b (M.no_publisher p) n.0 (Reply p n))) _ b (inv-removed b (Reply p n) f) f
+inv-call b (cancel l n) f = inv-pick (is_ok (check_take b (M.no_link l) n.0 (Cancel l n))) _ b (inv-removed b (Cancel l n) f) f
 inv-call b (gone peer out) f =
-    inv-pick (eqb (drop_refusal b (M.no_peer peer) (key_of peer) out) 0) _ b (inv-removed b (key_of peer) f) f
+    inv-pick (is_ok (check_drop b (M.no_peer peer) (key_of peer) out)) _ b (inv-removed b (key_of peer) f) f
 inv-call b (run_out time out) f = inv-run-out b time out f
 
 inv-from : (cs : List Call) (b : Model) → Invariant b → Invariant (model_at b cs)
@@ -233,7 +237,7 @@ pub inv_at : (first : PublisherNumber) → Ranged first → (cs : List Call) →
 inv_at first r cs = inv-from cs (M.empty first) (inv-empty first r)
 
 -- and the number that an accepted ask is given is not in flight with its publisher
-pub new-number : (b : Model) (l : ℕ) (n : FrontNumber) (p time : ℕ) → Invariant b → ask_refusal b l n p time ≡ 0
+pub new-number : (b : Model) (l : ℕ) (n : FrontNumber) (p time : ℕ) → Invariant b → check_ask b l n p time ≡ Ok tt
     → length (matching (Reply p (given b p)) b.requests) ≡ 0
 new-number b l n p time f e =
     let r = accepts b l n p time e in

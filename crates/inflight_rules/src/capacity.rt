@@ -10,15 +10,8 @@ pub fn capacity_taken(masks: &[u64; 9]) -> usize
     ensures { result ≡ taken_of masks.now }
 {
     let mut sum: usize = 0;
-    let mut p: usize = 0;
-    while p < 8 {
-        let load = count(masks[1 + p]);
-        p += 1;
-        if load < 4 {
-            sum += 4;
-        } else {
-            sum += load;
-        }
+    for &m in masks[1..].iter() {
+        sum += count(m).max(4);
     }
     sum
 }

@@ -1,60 +1,57 @@
 // The rules by which an ask is refused, in their order.
 ghost use Rattle.std.specs.Prelude.{◌≡◌, ◌<◌};
-ghost use Rattle.inflight.specs.Tables.{load_refusal, ask_refusal_of};
+ghost use Rattle.inflight.specs.Tables.{check_load, check_ask_of};
 
 use crate::capacity::capacity_taken;
-use inflight::{FrontNumber, same_front};
+use inflight::{FrontNumber, Table};
 use inflight_fronts::find_front;
 use inflight_slots::count;
 use inflight_times::no_time;
-use refusal::{CAPACITY_GONE, IN_FLIGHT_ALREADY, LOAD_AT_LIMIT, NUMBER_ZERO, OUT_OF_RANGE};
+use refusal::Refusal;
 
-// 32 and 33 by the rules, and 0 where neither applies.
-fn load_refusal(masks: &[u64; 9], publisher: u8) -> u8
+// 32 and 33 by the rules.
+fn check_load(masks: &[u64; 9], publisher: u8) -> Result<(), Refusal>
     requires { publisher < 8 }
-    ensures { result ≡ load_refusal masks.now publisher }
+    ensures { result ≡ check_load masks.now publisher }
 {
     let p = publisher as usize;
     let load = count(masks[1 + p]);
     if 16 <= load {
-        return LOAD_AT_LIMIT;
+        return Err(Refusal::LoadAtLimit);
     }
     if load < 4 {
-        return 0;
+        return Ok(());
     }
     if capacity_taken(masks) == 64 {
-        return CAPACITY_GONE;
+        return Err(Refusal::CapacityGone);
     }
-    0
+    Ok(())
 }
 
-// An ask's refusal number by the rules, and 0 where they accept it.
-pub fn ask_refusal(
-    masks: &[u64; 9],
-    numbers: &[i64; 136],
-    places: &[u8; 128],
+// Whether the rules accept an ask.
+pub fn check_ask(
+    table: &Table,
     link: u8,
     number: FrontNumber,
     publisher: u8,
     time: u64,
-) -> u8
-    ensures { result ≡ ask_refusal_of masks.now numbers.now
-        places.now link number publisher time }
+) -> Result<(), Refusal>
+    ensures { result ≡ check_ask_of table.now link number publisher time }
 {
     if 32 <= link {
-        return OUT_OF_RANGE;
+        return Err(Refusal::OutOfRange);
     }
     if 8 <= publisher {
-        return OUT_OF_RANGE;
+        return Err(Refusal::OutOfRange);
     }
     if no_time(time) {
-        return OUT_OF_RANGE;
+        return Err(Refusal::OutOfRange);
     }
-    if same_front(number, FrontNumber(0)) {
-        return NUMBER_ZERO;
+    if number == FrontNumber(0) {
+        return Err(Refusal::NumberZero);
     }
-    if find_front(masks[0], numbers, places, link, number) != 64 {
-        return IN_FLIGHT_ALREADY;
+    if find_front(table.masks[0], &table.numbers, &table.places, link, number) != 64 {
+        return Err(Refusal::InFlightAlready);
     }
-    load_refusal(masks, publisher)
+    check_load(&table.masks, publisher)
 }

@@ -5,7 +5,7 @@ ghost use Rattle.inflight.specs.Masks.{slots, seek, gather};
 ghost use Rattle.inflight.specs.Tables.{is_number, is_link, is_due};
 
 use crate::bits::{bit, lowest, rest};
-use inflight::{PublisherNumber, same_number};
+use inflight::PublisherNumber;
 
 // The first slot of a mask whose request has a publisher number; 64 where there is none.
 pub fn find_number(mask: u64, numbers: &[i64; 136], n: PublisherNumber) -> usize
@@ -15,8 +15,8 @@ pub fn find_number(mask: u64, numbers: &[i64; 136], n: PublisherNumber) -> usize
     while m != 0 {
         let i = lowest(m);
         m = rest(m);
-        let x = numbers[64 + i];
-        if same_number(PublisherNumber(x), n) {
+        let x = PublisherNumber(numbers[64 + i]);
+        if x == n {
             return i;
         }
     }

@@ -1,5 +1,5 @@
 // The calls that take one request out of the table: reply, by publisher and number, and cancel, by link and number.
-// They never open a socket, read a clock or allocate: the table is lent, as arrays of crate `inflight`, and changes
+// They never open a socket, read a clock or allocate: the table of crate `inflight` is lent, and changes
 // where it stands. Both are total on any contents; the types and the definitions are in crate `inflight`.
 #![tactic(auto)]
 

@@ -14,18 +14,22 @@ use borrow.Author.Tests.{eqb-true, eqb-false, leb-false}
 use Rattle.inflight.specs.Numbers.{same, after}
 use Rattle.wire.specs.Choice.{pick, first}
 use Rattle.inflight.specs.Matching.{sum_below, matches, matching, load, capacity_taken, next_free}
-use Rattle.inflight.specs.Model.{ask_refusal}
+use Rattle.inflight.specs.Model.{check_ask}
 use Rattle.inflight.specs.declared.FrontNumber.{FrontNumber}
 use Rattle.inflight.specs.declared.PublisherNumber.{PublisherNumber}
 use Rattle.inflight.specs.Requests.{Key}
 use Rattle.inflight.specs.Requests.{Reply, Cancel}
 use Rattle.inflight.specs.Masks.{bit_at, slots, slots_from, seek}
-use Rattle.inflight.specs.Tables.{taken_of, free_of, load_refusal, ask_refusal_of, line, Table, used, mine, is_front}
+use Rattle.inflight.specs.Tables.{taken_of, free_of, check_load, check_ask_of, line, used, mine, is_front}
+use Rattle.inflight.specs.declared.Table.{Table}
 use Rattle.inflight.specs.Tables.{is_number}
 use Rattle.inflight_tied.proofs.Tied.{occ, Tied, entry, in_flight, model_of}
 use Rattle.inflight_tied.proofs.Ties.{line-length, total-same, bit-most}
 use Rattle.inflight_tied.proofs.Loads.{keep, keep-below, keep-occ, named-map, length-of-map, load-ones}
 use Rattle.inflight_tied.proofs.Loads.{taken-same}
+use Rattle.std.specs.Prelude.{Result, Ok, Err, ⊤}
+use Rattle.refusal.specs.declared.Refusal.{Refusal}
+use Rattle.refusal.specs.declared.Refusal.TheVariants.{OutOfRange, NumberZero, InFlightAlready, LoadAtLimit, CapacityGone}
 
 -- ---- a search that ends at 64 passed every slot of the mask
 
@@ -185,33 +189,33 @@ module _ (w : Table) (t : Tied w) where
   free-same zero p q n = refl
   free-same (suc k) p q n = rw (number_same p q n, free-same k p q (after n))
 
-  -- the same asks are refused, with the same number
+  -- the same asks are refused, with the same refusal
   pub ask-same : (l : ℕ) (n : FrontNumber) (p time : ℕ)
-      → ask_refusal_of w.masks w.numbers w.places l n p time ≡ ask_refusal (model_of w) l n p time
-  unfolding ask_refusal_of load_refusal ask_refusal
+      → check_ask_of w l n p time ≡ check_ask (model_of w) l n p time
+  unfolding check_ask_of check_load check_ask
   ask-same l n p time = go (leb 8 p) refl
     where
       go : (x : Bool) → leb 8 p ≡ x
-          → ◌≡◌ {A = ℕ}
+          → ◌≡◌ {A = Result ⊤ Refusal}
           (first
-          ((leb 32 l, 30)
-          ∷ (leb 8 p, 30)
-          ∷ (leb 4611686018427387904 time, 30)
-          ∷ (same n.0 (pos 0), 12)
-          ∷ (not (eqb (seek (is_front w.numbers w.places l n) (slots (used w))) 64), 31)
+          ((leb 32 l, Err OutOfRange)
+          ∷ (leb 8 p, Err OutOfRange)
+          ∷ (leb 4611686018427387904 time, Err OutOfRange)
+          ∷ (same n.0 (pos 0), Err NumberZero)
+          ∷ (not (eqb (seek (is_front w.numbers w.places l n) (slots (used w))) 64), Err InFlightAlready)
           ∷ [])
           (first
-          ((leb 16 (ones (mine w p)), 32)
-          ∷ (leb 4 (ones (mine w p)) && eqb (taken_of w.masks) 64, 33)
-          ∷ []) 0))
+          ((leb 16 (ones (mine w p)), Err LoadAtLimit)
+          ∷ (leb 4 (ones (mine w p)) && eqb (taken_of w.masks) 64, Err CapacityGone)
+          ∷ []) (Ok tt)))
           (first
-          ((leb 32 l, 30)
-          ∷ (leb 8 p, 30)
-          ∷ (leb 4611686018427387904 time, 30)
-          ∷ (same n.0 (pos 0), 12)
-          ∷ (not (eqb (length (matching (Cancel l n) (in_flight w))) 0), 31)
-          ∷ (leb 16 (load (in_flight w) p), 32)
-          ∷ (leb 4 (load (in_flight w) p) && eqb (capacity_taken (in_flight w)) 64, 33)
-          ∷ []) 0)
+          ((leb 32 l, Err OutOfRange)
+          ∷ (leb 8 p, Err OutOfRange)
+          ∷ (leb 4611686018427387904 time, Err OutOfRange)
+          ∷ (same n.0 (pos 0), Err NumberZero)
+          ∷ (not (eqb (length (matching (Cancel l n) (in_flight w))) 0), Err InFlightAlready)
+          ∷ (leb 16 (load (in_flight w) p), Err LoadAtLimit)
+          ∷ (leb 4 (load (in_flight w) p) && eqb (capacity_taken (in_flight w)) 64, Err CapacityGone)
+          ∷ []) (Ok tt))
       go true e = rw e
       go false e = rw (front_same l n, load-ones w t p (leb-false 8 p e), taken-same w t)

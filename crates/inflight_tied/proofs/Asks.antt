@@ -13,14 +13,14 @@ use lib.ListN.{length, drop, get_or, set, length-set}
 use lib.Seq.{get_or-set_same, get_or-set_other, drop-set-lt, drop-set-add, get_or-drop}
 use borrow.Author.Tests.{eqb-true, eqb-false, lt-leb}
 use Rattle.inflight.specs.Numbers.{after}
-use Rattle.inflight.specs.Model.{Model, ask_refusal, given, deadline_at, latest, accept, ask_answer, ask}
+use Rattle.inflight.specs.Model.{Model, check_ask, given, deadline_at, latest, accept, ask_answer, ask}
 use Rattle.inflight.specs.Matching.{next_free}
-use Rattle.inflight.specs.declared.AskAnswer.TheVariants as A
 use Rattle.inflight.specs.declared.FrontNumber.{FrontNumber}
 use Rattle.inflight.specs.declared.PublisherNumber.{PublisherNumber}
 use Rattle.inflight.specs.Requests.{Request}
 use Rattle.inflight.specs.Masks.{bit_at, lowest_free}
-use Rattle.inflight.specs.Tables.{line, Table, Sized, used, latest_of, timed_of, placed, given_of, ask_refusal_of, ask_of}
+use Rattle.inflight.specs.Tables.{line, Sized, used, latest_of, timed_of, placed, given_of, check_ask_of, ask_of}
+use Rattle.inflight.specs.declared.Table.{Table}
 use Rattle.inflight_tied.proofs.Tied.{occ, Below, Tied, entry, in_flight, model_of}
 use Rattle.inflight.proofs.MaskLaws.{twice}
 use Rattle.inflight_model.proofs.Capacity.{accepts}
@@ -29,6 +29,8 @@ use Rattle.inflight_tied.proofs.Ties.{occ-yes, occ-no}
 use Rattle.inflight_tied.proofs.Loads.{length-standing}
 use Rattle.inflight_tied.proofs.Answers.{free-same, ask-same}
 use Rattle.inflight_tied.proofs.Placed.{placed-line, placed-tied, free-slot}
+use Rattle.std.specs.Prelude.{Result, Ok, Err, ⊤}
+use Rattle.refusal.specs.declared.Refusal.{Refusal}
 
 -- a mask with fewer than k ones has a free slot
 pub has-free : (k n : ℕ) → n < 2 ^ k → ones n < k → count_trailing_zeros k (2 ^ k - 1 - n) < k
@@ -224,24 +226,21 @@ latest-same w time h k = omega (arith, h, k)
 -- an ask on a tied table that has seen times in range, if there is a slot left where the model accepts
 pub ask-all : (w : Table) → Tied w → Sized w → get_or w.times 64 0 < 4611686018427387904
     → (l : ℕ) (n : FrontNumber) (p time timeout : ℕ)
-    → (ask_refusal (model_of w) l n p time ≡ 0 → ones (used w) < 64) → AskSame w l n p time timeout
+    → (check_ask (model_of w) l n p time ≡ Ok tt → ones (used w) < 64) → AskSame w l n p time timeout
 unfolding ask_of ask ask_answer accept
-ask-all w t z seen l n p time timeout room =
-    go (eqb (ask_refusal_of w.masks w.numbers w.places l n p time) 0) refl
+ask-all w t z seen l n p time timeout room = go (check_ask_of w l n p time) refl
   where
-    no : ask_refusal_of w.masks w.numbers w.places l n p time ≡ ask_refusal (model_of w) l n p time
+    no : check_ask_of w l n p time ≡ check_ask (model_of w) l n p time
     no = ask-same w t l n p time
 
-    go : (x : Bool) → eqb (ask_refusal_of w.masks w.numbers w.places l n p time) 0 ≡ x
-        → AskSame w l n p time timeout
-    go false e =
-        let f : eqb (ask_refusal (model_of w) l n p time) 0 ≡ false = ap (λ (y : ℕ). eqb y 0) (sym no) ∙ e in
-        record { answer = rw (e, f, no); table = rw (e, f); kept = rw e t }
-    go true e =
-        let y : ask_refusal (model_of w) l n p time ≡ 0 = sym no ∙ eqb-true _ 0 e in
-        let f : eqb (ask_refusal (model_of w) l n p time) 0 ≡ true = ap (λ (y : ℕ). eqb y 0) (sym no) ∙ e in
-        let r = room y in
-        let a = accepts (model_of w) l n p time y in
+    go : (x : Result ⊤ Refusal) → check_ask_of w l n p time ≡ x → AskSame w l n p time timeout
+    go (Err x) e =
+        let f = sym no ∙ e in
+        record { answer = rw (e, f); table = rw (e, f); kept = rw e t }
+    go (Ok x) e =
+        let f : check_ask (model_of w) l n p time ≡ Ok tt = sym no ∙ e in
+        let r = room f in
+        let a = accepts (model_of w) l n p time f in
         let p8 = a.range in
         let s64 = slot-left (used w) t.fits r in
         let q : leb 64 (lowest_free (used w)) ≡ false = lt-leb 64 (lowest_free (used w)) s64 in
@@ -256,7 +255,7 @@ ask-all w t z seen l n p time timeout room =
           seen = now;
         } in
         record {
-          answer = rw (e, f, q) (ap A.Accepted g);
+          answer = rw (e, f, q) (ap Ok g);
           table =
               rw (e, f, q)
               (read-placed w t l n p (lowest_free (used w)) (given_of w p) time timeout p8 s64 fr z.masks z.numbers

@@ -12,7 +12,8 @@ use lib.Count.{ones}
 use lib.ListN.{length, take, get_or, replicate}
 use Rattle.wire.specs.Choice.{pick}
 use Rattle.inflight.specs.Masks.{bit_at, slots, cut, outside, laid_out, placed_anew}
-use Rattle.inflight.specs.Tables.{line, Table, table_of, used, mine, cut_all, struck}
+use Rattle.inflight.specs.Tables.{line, table_of, used, mine, cut_all, struck}
+use Rattle.inflight.specs.declared.Table.{Table}
 use Rattle.inflight_tied.proofs.Tied.{occ, Tied, Aged}
 use Rattle.inflight_tied.proofs.Ties.{bit_cut, bit-most, cut-occ, get_d_map, outside_below, outside-occ}
 use Rattle.inflight_tied.proofs.LaidOut.{laid-line, anew-length, aged-anew}

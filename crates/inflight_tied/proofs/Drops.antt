@@ -16,15 +16,17 @@ use Rattle.inflight.specs.Matching.{matches, matching, other_ends, over_front}
 use Rattle.inflight.specs.Requests.{Request, Key, key_of}
 use Rattle.inflight.specs.declared.Peer.{Peer}
 use Rattle.inflight.specs.declared.Peer.TheVariants as P
-use Rattle.inflight.specs.Model.{drop_refusal, drop_answer, drop_slice, dropped, no_peer}
-use Rattle.inflight.specs.declared.DropAnswer.TheVariants as D
-use Rattle.inflight.specs.Tables.{Table, line, used, is_link, slots_of, leaving, other_at, ends_of, struck, Dropped, drop_of}
+use Rattle.inflight.specs.Model.{check_drop, drop_answer, drop_slice, dropped, no_peer}
+use Rattle.inflight.specs.Tables.{line, used, is_link, slots_of, leaving, other_at, ends_of, struck, Dropped, drop_of}
+use Rattle.inflight.specs.declared.Table.{Table}
 use Rattle.inflight.specs.Tables.{gone_of}
 use Rattle.inflight_tied.proofs.Tied.{occ, Below, Tied, entry, in_flight, model_of}
 use Rattle.inflight_tied.proofs.Ties.{bit-or, bit-most}
 use Rattle.inflight_tied.proofs.Loads.{length-of-map}
 use Rattle.inflight_tied.proofs.Placed.{bit-self, bit-other, bit-of-zero, power-fits}
 use Rattle.inflight_tied.proofs.Struck.{struck-standing, leaving-matching}
+use Rattle.std.specs.Prelude.{Err}
+use Rattle.refusal.specs.declared.Refusal.TheVariants.{OutOfRange}
 
 -- ---- the bits of a gathered mask
 
@@ -185,15 +187,15 @@ pub record DropSame (w : Table) (r : Dropped) (range : Bool) (k : Key) (out : Li
   pub table : model_of r.table ≡ dropped (model_of w) range k out
 
 refused-same : (w : Table) (k : Key) (out : List ℤ)
-    → DropSame w (record { table = w; answer = D.Refused 30; slice = out }) true k out
-unfolding drop_answer drop_slice dropped drop_refusal
+    → DropSame w (record { table = w; answer = Err OutOfRange; slice = out }) true k out
+unfolding drop_answer drop_slice dropped check_drop
 refused-same w k out = record { answer = refl; slice = refl; table = refl }
 
 drop-same : (w : Table) → Tied w → (k : Key) (g base : ℕ) (out : List ℤ) → g < 2 ^ 64
     → ((x : ℕ) → x < 64 → 0 < occ x (line w) → matches k (entry w x) ≡ has g x)
     → ends_of w.numbers w.places base (leaving w g) ≡ other_ends k (map (entry w) (leaving w g))
     → DropSame w (drop_of w g base out) false k out
-unfolding drop_of drop_answer drop_slice dropped drop_refusal struck
+unfolding drop_of drop_answer drop_slice dropped check_drop struck
 drop-same w t k g base out fits hits ends = go (ltb (length out) (2 * length (leaving w g))) refl
   where
     m : matching k (in_flight w) ≡ map (entry w) (leaving w g)
@@ -223,7 +225,7 @@ gone_same w t peer out = go (no_peer peer) refl
     g = slots_of w.masks w.places peer
 
     go : (b : Bool) → no_peer peer ≡ b
-        → DropSame w (pick b (record { table = w; answer = D.Refused 30; slice = out }) (drop_of w g (other_at peer) out))
+        → DropSame w (pick b (record { table = w; answer = Err OutOfRange; slice = out }) (drop_of w g (other_at peer) out))
         b (key_of peer) out
     go true e = refused-same w (key_of peer) out
     go false e =

@@ -10,7 +10,8 @@ use lib.Dec.{eqb}
 use lib.ListN.{length, get_or, length-map}
 use borrow.Author.Tests.{eqb-true, eqb-false, eq-eqb, lt-ltb, le-ltb}
 use Rattle.inflight.specs.Masks.{bit_at, has, outside, closed_up}
-use Rattle.inflight.specs.Tables.{Table, used, line, freed}
+use Rattle.inflight.specs.Tables.{used, line, freed}
+use Rattle.inflight.specs.declared.Table.{Table}
 use Rattle.inflight_tied.proofs.Tied.{occ, Below, Aged, Tied}
 use Rattle.inflight_tied.proofs.Ties.{occ-yes, occ-no, occ-nil, get_d_map}
 use Rattle.inflight_tied.proofs.Placed.{bit-self, bit-other, power-fits}

@@ -14,7 +14,8 @@ use Rattle.inflight.specs.Requests.{Key}
 use Rattle.inflight.specs.Requests.{Lost}
 use Rattle.inflight.specs.Requests.{Request}
 use Rattle.inflight.specs.Masks.{bit_at}
-use Rattle.inflight.specs.Tables.{taken_of, line, Table, used, mine}
+use Rattle.inflight.specs.Tables.{taken_of, line, used, mine}
+use Rattle.inflight.specs.declared.Table.{Table}
 use Rattle.inflight_tied.proofs.Tied.{occ, Below, Tied, entry, in_flight}
 use Rattle.inflight_tied.proofs.Ties.{tied-length, occ-yes, occ-no, occ-nil, total-same}
 

@@ -16,7 +16,8 @@ use Rattle.wire.specs.Choice.{pick}
 use Rattle.inflight.specs.declared.FrontNumber.{FrontNumber}
 use Rattle.inflight.specs.declared.PublisherNumber.{PublisherNumber}
 use Rattle.inflight.specs.Masks.{bit_at, slots, lowest_free, laid_out}
-use Rattle.inflight.specs.Tables.{line, Table, used, mine, placed}
+use Rattle.inflight.specs.Tables.{line, used, mine, placed}
+use Rattle.inflight.specs.declared.Table.{Table}
 use Rattle.inflight_tied.proofs.Tied.{occ, Below, Aged, Tied}
 use Rattle.inflight.proofs.MaskLaws.{twice}
 use Rattle.inflight_tied.proofs.Ties.{bit-or, bit-most, flip, occ-yes, occ-no, occ-nil, tied-length}

@@ -16,10 +16,10 @@ use Rattle.inflight.specs.Masks.{bit_at}
 use Rattle.inflight.specs.Matching.{matches, matching, without, other_ends, over_front}
 use Rattle.inflight.specs.Requests.{Request, Due, Lost}
 use Rattle.inflight.specs.declared.Peer.TheVariants as P
-use Rattle.inflight.specs.declared.DropAnswer.TheVariants as D
-use Rattle.inflight.specs.Model.{Model, no_time, drop_refusal, drop_answer, drop_slice}
+use Rattle.inflight.specs.Model.{Model, no_time, check_drop, drop_answer, drop_slice}
 use Rattle.inflight.specs.Model.{run_out_key, run_out_answer, run_out_slice, run_out}
-use Rattle.inflight.specs.Tables.{Table, Sized, table_of, line, used, leaving, ends_at, ends_of, struck, Dropped, drop_of}
+use Rattle.inflight.specs.Tables.{Sized, table_of, line, used, leaving, ends_at, ends_of, struck, Dropped, drop_of}
+use Rattle.inflight.specs.declared.Table.{Table}
 use Rattle.inflight.specs.Tables.{latest_of, is_due, due_of, run_out_of}
 use Rattle.inflight_tied.proofs.Tied.{Below, Tied, entry, in_flight, model_of}
 use Rattle.inflight_tied.proofs.Cuts.{struck-tied}
@@ -27,6 +27,7 @@ use Rattle.inflight_tied.proofs.Drops.{gather-fits, gathered-bit, hit-has, withi
 use Rattle.inflight_tied.proofs.Loads.{length-of-map}
 use Rattle.inflight_tied.proofs.Struck.{struck-standing, leaving-matching}
 use Rattle.inflight_tied.proofs.Asks.{latest-same}
+use Rattle.std.specs.Prelude.{Ok}
 
 -- ---- a table that sees a time: no request changes
 
@@ -123,7 +124,7 @@ pub record RunOutSame (w : Table) (time : ℕ) (out : List ℤ) (r : Dropped) (m
 
 pub run-out-same : (w : Table) → Tied w → Sized w → get_or w.times 64 0 < 4611686018427387904
     → (time : ℕ) (out : List ℤ) → RunOutSame w time out (run_out_of w time out) (run_out (model_of w) time out)
-unfolding run_out_of run_out drop_refusal drop_answer drop_slice drop_of struck
+unfolding run_out_of run_out check_drop drop_answer drop_slice drop_of struck
 run-out-same w t z seen time out = go (no_time time) refl
   where
     now : ℕ
@@ -151,7 +152,7 @@ run-out-same w t z seen time out = go (no_time time) refl
         let ends : ends_of w.numbers w.places (ends_at false) (leaving w g) ≡ other_ends (run_out_key (model_of w) time) (matching (run_out_key (model_of w) time) (in_flight w)) =
         due-ends w t now ∙ ap (other_ends (Due now)) (sym (due-leaving w t now)) ∙ ap (λ (n : ℕ). other_ends (Due n) (matching (Due n) (in_flight w))) l in
         record {
-          answer = rw (e, s, k) (ap D.Count (sym (ap (λ (n : ℕ). length (matching (Due n) (in_flight w))) (sym l) ∙ due-count w t now)));
+          answer = rw (e, s, k) (ap Ok (sym (ap (λ (n : ℕ). length (matching (Due n) (in_flight w))) (sym l) ∙ due-count w t now)));
           slice = rw (e, s, k) (ap (λ (ns : List ℤ). over_front ns out) ends);
           table = rw (e, s, k) (due-model w t now z ∙ ap (λ (n : ℕ). record { requests = without (Due n) (in_flight w); next = (model_of w).next; seen = n }) l);
           kept = rw (e, s) (seeing-tied (struck w g) now (struck-tied w g (due-fits w now) t));

@@ -15,18 +15,16 @@ use lib.Seq.{drop_at, get_or-set_same, length-take-le}
 use Rattle.wire.specs.Choice.{pick}
 use Rattle.wire.proofs.ChoiceLaws.{by_row}
 use Rattle.inflight.specs.Numbers.{same}
-use Rattle.inflight.specs.Model.{Model, ask_refusal, empty, no_link, no_publisher, no_peer, no_time}
+use Rattle.inflight.specs.Model.{Model, check_ask, empty, no_link, no_publisher, no_peer, no_time}
 use Rattle.inflight.specs.Calls.{Call, Heard, ask, reply, cancel, gone, run_out, asked, replied, cancelled, dropped}
 use Rattle.inflight.specs.Calls.{table_heard, table_after, table_run, table_at, model_heard, model_after, model_run, model_at}
 use Rattle.inflight.specs.declared.FrontNumber.{FrontNumber}
 use Rattle.inflight.specs.declared.PublisherNumber.{PublisherNumber}
 use Rattle.inflight.specs.declared.Peer.{Peer}
-use Rattle.inflight.specs.declared.DropAnswer.{DropAnswer}
-use Rattle.inflight.specs.declared.FreshAnswer.{FreshAnswer}
-use Rattle.inflight.specs.declared.FreshAnswer.TheVariants as F
 use Rattle.inflight.specs.Masks.{bit_at, outside, laid_out, seek, slots, lowest_free}
-use Rattle.inflight.specs.Tables.{Table, Sized, used, mine, line, slots_of, leaving, struck, freed, placed, given_of}
-use Rattle.inflight.specs.Tables.{is_number, is_front, ask_refusal_of, ask_of, reply_of, cancel_of, other_at, drop_of, gone_of}
+use Rattle.inflight.specs.Tables.{Sized, used, mine, line, slots_of, leaving, struck, freed, placed, given_of}
+use Rattle.inflight.specs.declared.Table.{Table}
+use Rattle.inflight.specs.Tables.{is_number, is_front, check_ask_of, ask_of, reply_of, cancel_of, other_at, drop_of, gone_of}
 use Rattle.inflight.specs.Tables.{Replied, Cancelled, fresh_answer, fresh_masks, fresh_numbers, fresh_times, fresh_of, timed_of}
 use Rattle.inflight.specs.Tables.{latest_of, due_of, Dropped, dropped_at, run_out_of}
 use Rattle.inflight_model.proofs.Capacity.{accepts, bounded-space}
@@ -41,6 +39,9 @@ use Rattle.inflight_tied.proofs.Takes.{reply-same, cancel-same}
 use Rattle.inflight_tied.proofs.Drops.{slots-fit, gone_same}
 use Rattle.inflight_tied.proofs.Asks.{ask-all}
 use Rattle.inflight_tied.proofs.RunOuts.{seeing, run-out-same}
+use Rattle.std.specs.Prelude.{Result, Ok, Err, ⊤}
+use Rattle.refusal.specs.declared.Refusal.{Refusal}
+use Rattle.refusal.specs.declared.Refusal.TheVariants.{OutOfRange}
 
 -- ---- the tie and the sizes are kept
 
@@ -98,14 +99,13 @@ placed-sized w a n p s g time timeout l =
 ask-sized : (w : Table) (l : ℕ) (n : FrontNumber) (p time timeout : ℕ) → Sized w
     → Sized (ask_of w l n p time timeout).table
 unfolding ask_of
-ask-sized w l n p time timeout h =
-    go (eqb (ask_refusal_of w.masks w.numbers w.places l n p time) 0) refl (leb 64 (lowest_free (used w))) refl
+ask-sized w l n p time timeout h = go (check_ask_of w l n p time) refl (leb 64 (lowest_free (used w))) refl
   where
-    go : (x : Bool) → eqb (ask_refusal_of w.masks w.numbers w.places l n p time) 0 ≡ x → (y : Bool)
+    go : (x : Result ⊤ Refusal) → check_ask_of w l n p time ≡ x → (y : Bool)
         → leb 64 (lowest_free (used w)) ≡ y → Sized (ask_of w l n p time timeout).table
-    go false e y d = rw e h
-    go true e true d = rw (e, d) h
-    go true e false d = rw (e, d) (placed-sized w l n p (lowest_free (used w)) (given_of w p) time timeout h)
+    go (Err x) e y d = rw e h
+    go (Ok x) e true d = rw (e, d) h
+    go (Ok x) e false d = rw (e, d) (placed-sized w l n p (lowest_free (used w)) (given_of w p) time timeout h)
 
 reply-sized : (w : Table) (p : ℕ) (n : PublisherNumber) → Sized w → Sized (reply_of w p n).table
 unfolding reply_of
@@ -168,7 +168,7 @@ pub record Same (w : Table) (c : Call) : Type 0 where
   pub table : model_of (table_after w c) ≡ model_after (model_of w) c
   pub kept : Kept (table_after w c)
 
-heard-eq : {a b : DropAnswer} {x y : List ℤ} → a ≡ b → x ≡ y → dropped a x ≡ dropped b y
+heard-eq : {a b : Result ℕ Refusal} {x y : List ℤ} → a ≡ b → x ≡ y → dropped a x ≡ dropped b y
 heard-eq p q = rw (p, q)
 
 pub same-call : (w : Table) (c : Call) → Good w → Same w c
@@ -180,7 +180,7 @@ same-call w (ask l n p time timeout) g =
       kept = record { tied = r.kept; sized = ask-sized w l n p time timeout g.kept.sized };
     }
   where
-    room : ask_refusal (model_of w) l n p time ≡ 0 → ones (used w) < 64
+    room : check_ask (model_of w) l n p time ≡ Ok tt → ones (used w) < 64
     room e =
         let a = bounded-space (in_flight w) p g.inv.bounded (accepts (model_of w) l n p time e) in
         let b = length-standing w g.kept.tied in
@@ -249,16 +249,16 @@ heard-at cs c w g =
 -- ---- a fresh table, over any contents
 
 -- fresh accepts a first number that is not below 1
-pub fresh-ready : (w : Table) (n : PublisherNumber) → lt_z n.0 (pos 1) ≡ false → (fresh_of w n).answer ≡ F.Ready
+pub fresh-ready : (w : Table) (n : PublisherNumber) → lt_z n.0 (pos 1) ≡ false → (fresh_of w n).answer ≡ Ok tt
 unfolding fresh_of fresh_answer
 fresh-ready w n h = rw h
 
 -- and no other
-pub ready-not-below : (w : Table) (n : PublisherNumber) → (fresh_of w n).answer ≡ F.Ready → lt_z n.0 (pos 1) ≡ false
+pub ready-not-below : (w : Table) (n : PublisherNumber) → (fresh_of w n).answer ≡ Ok tt → lt_z n.0 (pos 1) ≡ false
 unfolding fresh_of fresh_answer
 ready-not-below w n r = go (lt_z n.0 (pos 1)) r
   where
-    go : (b : Bool) → pick {A = FreshAnswer} b (F.Refused 30) F.Ready ≡ F.Ready → b ≡ false
+    go : (b : Bool) → pick {A = Result ⊤ Refusal} b (Err OutOfRange) (Ok tt) ≡ Ok tt → b ≡ false
     go true q = cc
     go false q = refl
 

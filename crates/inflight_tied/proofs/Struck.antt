@@ -14,7 +14,8 @@ use Rattle.inflight.specs.Matching.{sum_below, matches, matching, without}
 use Rattle.inflight.specs.Requests.{Key}
 use Rattle.inflight.specs.Requests.{Request}
 use Rattle.inflight.specs.Masks.{bit_at, slots_from, seek, has, within, outside, closed_up, placed_anew}
-use Rattle.inflight.specs.Tables.{line, leaving, Table, used, struck, freed}
+use Rattle.inflight.specs.Tables.{line, leaving, used, struck, freed}
+use Rattle.inflight.specs.declared.Table.{Table}
 use Rattle.inflight_tied.proofs.Tied.{occ, Below, Tied, entry, in_flight}
 use Rattle.inflight_tied.proofs.Ties.{line-length, here, occ-tail}
 use Rattle.inflight_tied.proofs.Cuts.{cut_by, struck-line}

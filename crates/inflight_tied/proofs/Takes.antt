@@ -13,22 +13,26 @@ use borrow.Author.Tests.{eqb-true, eqb-false, leb-false, le-leb, lt-leb}
 use Rattle.inflight.specs.Numbers.{same}
 use Rattle.wire.specs.Choice.{pick}
 use Rattle.inflight.specs.Matching.{matches, matching, without}
-use Rattle.inflight.specs.Model.{remove, take_refusal, taken, reply_answer, reply, cancel_answer, cancel}
+use Rattle.inflight.specs.Model.{remove, check_take, taken, reply_answer, reply, cancel_answer, cancel}
 use Rattle.inflight.specs.declared.PublisherNumber.{PublisherNumber}
 use Rattle.inflight.specs.Requests.{Key}
 use Rattle.inflight.specs.Requests.{Reply, Cancel}
 use Rattle.inflight.specs.declared.FrontNumber.{FrontNumber}
 use Rattle.inflight.specs.Requests.{Request}
-use Rattle.inflight.specs.declared.ReplyAnswer.TheVariants as R
-use Rattle.inflight.specs.declared.CancelAnswer.TheVariants as C
 use Rattle.inflight.specs.Masks.{bit_at, slots, seek}
-use Rattle.inflight.specs.Tables.{line, Table, used, mine, is_number, is_front, freed, reply_of, cancel_of}
+use Rattle.inflight.specs.Tables.{line, used, mine, is_number, is_front, freed, reply_of, cancel_of}
+use Rattle.inflight.specs.declared.Table.{Table}
 use Rattle.inflight_tied.proofs.Tied.{occ, Tied, entry, in_flight, model_of}
 use Rattle.inflight_tied.proofs.Ties.{occ-no, occ-nil}
 use Rattle.inflight_tied.proofs.Loads.{keep, keep-occ, named-map, length-of-map}
 use Rattle.inflight_tied.proofs.Answers.{number_same, front_same, hit-reply, hit-cancel}
 use Rattle.inflight_tied.proofs.Struck.{seek_found, slot-standing}
 use Rattle.inflight_tied.proofs.Freed.{freed-tied}
+use Rattle.std.specs.Prelude.{Result, Ok}
+use Rattle.refusal.specs.declared.Refusal.{Refusal}
+use Rattle.inflight.specs.Tables.{front_end, publisher_end}
+use Rattle.inflight.specs.declared.FrontEnd.{FrontEnd}
+use Rattle.inflight.specs.declared.PublisherEnd.{PublisherEnd}
 
 empty-named : (xs : List Request) → length xs ≡ 0 → xs ≡ []
 empty-named [] e = refl
@@ -117,8 +121,7 @@ cancel-found w t l n once = go (eqb (seek (is_front w.numbers w.places l n) (slo
 -- ---- the two calls against the model
 
 at_front : (w : Table) (s : ℕ)
-    → R.Front (entry w s).link (entry w s).front
-    ≡ R.Front (get_or w.places s 0) (record { 0 = get_or w.numbers s (pos 0) })
+    → ◌≡◌ {A = Result FrontEnd Refusal} (Ok (record { link = (entry w s).link; number = (entry w s).front })) (Ok (front_end w s))
 unfolding entry
 at_front w s = refl
 
@@ -129,7 +132,7 @@ pub record ReplySame (w : Table) (p : ℕ) (n : PublisherNumber) : Type 0 where
 
 pub reply-same : (w : Table) → Tied w → (p : ℕ) (n : PublisherNumber) → length (matching (Reply p n) (in_flight w)) ≤ 1
     → ReplySame w p n
-unfolding reply_of reply_answer take_refusal taken
+unfolding reply_of reply_answer check_take taken
 reply-same w t p n once = go (leb 8 p) refl (same n.0 (pos 0)) refl
   where
     third : leb 8 p ≡ false → same n.0 (pos 0) ≡ false
@@ -149,8 +152,7 @@ reply-same w t p n once = go (leb 8 p) refl (same n.0 (pos 0)) refl
     go false e false d = third e d (reply-found w t p (leb-false 8 p e) n once)
 
 at-publisher : (w : Table) (s : ℕ)
-    → C.Publisher (entry w s).publisher (entry w s).number
-    ≡ C.Publisher (get_or w.places (64 + s) 0) (record { 0 = get_or w.numbers (64 + s) (pos 0) })
+    → ◌≡◌ {A = Result PublisherEnd Refusal} (Ok (record { publisher = (entry w s).publisher; number = (entry w s).number })) (Ok (publisher_end w s))
 unfolding entry
 at-publisher w s = refl
 
@@ -161,7 +163,7 @@ pub record CancelSame (w : Table) (l : ℕ) (n : FrontNumber) : Type 0 where
 
 pub cancel-same : (w : Table) → Tied w → (l : ℕ) (n : FrontNumber) → length (matching (Cancel l n) (in_flight w)) ≤ 1
     → CancelSame w l n
-unfolding cancel_of cancel_answer take_refusal taken
+unfolding cancel_of cancel_answer check_take taken
 cancel-same w t l n once = go (leb 32 l) refl (same n.0 (pos 0)) refl
   where
     third : leb 32 l ≡ false → same n.0 (pos 0) ≡ false

@@ -10,7 +10,8 @@ use Rattle.wire.specs.Choice.{pick}
 use Rattle.inflight.specs.Masks.{bit_at}
 use Rattle.inflight.specs.Model.{Model}
 use Rattle.inflight.specs.Requests.{Request}
-use Rattle.inflight.specs.Tables.{Table, used, mine, line}
+use Rattle.inflight.specs.Tables.{used, mine, line}
+use Rattle.inflight.specs.declared.Table.{Table}
 
 -- how often i stands in a list
 unfoldable pub occ : ℕ → List ℕ → ℕ

@@ -12,32 +12,16 @@ pub use effective::effective_timeout;
 // Bit 23 of an extra's mask: a timeout follows.
 pub const TIMEOUT_BIT: u32 = 0x80_0000;
 
-#[derive(Clone, Copy)]
-pub enum Actor {
-    Absent,
-    Is(i64),
-}
-
-// In milliseconds. 0 is none: no reader reports it, and a writer that is given it writes no field.
-#[derive(Clone, Copy)]
-pub enum Timeout {
-    Absent,
-    Ms(u32),
-}
-
-// What an invoke means. Its payload (document 01: the rest) is the len bytes of the body from byte at on.
+// What an invoke means. Its timeout is in milliseconds, and 0 is none: no reader reports it, and a writer that is given
+// it writes no field. Its payload (document 01: the rest) is the len bytes of the body from byte at on.
+// Kept: at and len side by side, here and in `result` and `text`: a struct of the two would be taken apart again by each
+// that uses it, since C's structs have the two as fields, and `wire::part` takes the two.
 #[derive(Clone, Copy)]
 pub struct Invoke {
     pub number: i64,
-    pub actor: Actor,
-    pub timeout: Timeout,
+    pub actor: Option<i64>,
+    pub timeout: Option<u32>,
     pub tl2: bool,
     pub at: usize,
     pub len: usize,
-}
-
-#[derive(Clone, Copy)]
-pub enum InvokeRead {
-    Invoke(Invoke),
-    Refused(u8),
 }

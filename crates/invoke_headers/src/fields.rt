@@ -1,115 +1,94 @@
 // The fields of each header: an actor, an extra, or both.
 ghost use Rattle.std.specs.Prelude.{◌≡◌, ◌+◌, ◌≤◌, length};
-ghost use Rattle.invoke.specs.Fields.{is_given};
 ghost use Rattle.invoke_headers.specs.Headers.{read_extra, with_extra, flags_of, actor_of, both_of};
 
 use crate::{Extra, Headers, Next};
-use invoke::{Actor, TIMEOUT_BIT, Timeout};
-use refusal::{HEADER_NOT_CARRIED, HEADER_REPEATED, MESSAGE_CUT};
+use invoke::TIMEOUT_BIT;
+use refusal::Refusal;
 use wire::{i64_at, left, u32_at};
 
-fn given(actor: Actor) -> bool
-    ensures { result ≡ is_given actor }
-{
-    match actor {
-        Actor::Absent => false,
-        Actor::Is(_) => true,
-    }
-}
-
-fn read_extra(s: &[u8], at: usize) -> Extra
+#[tactic(auto, unfolding(crate::specs::Headers::read_extra))]
+fn read_extra(s: &[u8], at: usize) -> Result<Extra, Refusal>
     ensures { result ≡ read_extra s.now at }
 {
     let room = left(s, at);
     if room < 4 {
-        return Extra::Refused(MESSAGE_CUT);
+        return Err(Refusal::MessageCut);
     }
-    let mask = u32_at(s, at);
-    if mask == 0 {
-        return Extra::Is {
-            timeout: Timeout::Absent,
+    match u32_at(s, at) {
+        0 => Ok(Extra {
+            timeout: None,
             next: at + 4,
-        };
-    }
-    if mask == TIMEOUT_BIT {
-        if room < 8 {
-            return Extra::Refused(MESSAGE_CUT);
+        }),
+        TIMEOUT_BIT if room < 8 => Err(Refusal::MessageCut),
+        TIMEOUT_BIT => {
+            // From a slice of its own four bytes, whose length need not be looked at again.
+            let field = at + 4;
+            Ok(Extra {
+                timeout: Some(u32_at(&s[field..field + 4], 0)),
+                next: at + 8,
+            })
         }
-        // From a slice of its own four bytes, whose length need not be looked at again.
-        let field = at + 4;
-        return Extra::Is {
-            timeout: Timeout::Ms(u32_at(&s[field..field + 4], 0)),
-            next: at + 8,
-        };
+        _ => Err(Refusal::HeaderNotCarried),
     }
-    Extra::Refused(HEADER_NOT_CARRIED)
 }
 
 // A header that ends with an extra at at, and has said this actor.
-fn with_extra(s: &[u8], at: usize, actor: Actor) -> Next
+#[tactic(auto, using(refusal::proofs::Passing::passed))]
+fn with_extra(s: &[u8], at: usize, actor: Option<i64>) -> Result<Next, Refusal>
     ensures { result ≡ with_extra actor (read_extra s.now at) }
 {
-    match read_extra(s, at) {
-        Extra::Is { timeout, next } => Next::More(Headers {
-            at: next,
-            actor: actor,
-            extra: true,
-            timeout: timeout,
-            tl2: false,
-        }),
-        Extra::Refused(n) => Next::Refused(n),
-    }
+    let extra = read_extra(s, at)?;
+    Ok(Next::More(Headers {
+        at: extra.next,
+        actor,
+        extra: true,
+        timeout: extra.timeout,
+        tl2: false,
+    }))
 }
 
 // rpcDestFlags at h.at.
-pub(crate) fn flags_header(s: &[u8], h: Headers) -> Next
+#[tactic(auto, unfolding(crate::specs::Headers::flags_of))]
+pub(crate) fn flags_header(s: &[u8], h: Headers) -> Result<Next, Refusal>
     requires { h.at + 4 ≤ length s.now }
     ensures { result ≡ flags_of s.now h }
 {
-    let at = h.at;
-    let actor = h.actor;
     if h.extra {
-        return Next::Refused(HEADER_REPEATED);
+        return Err(Refusal::HeaderRepeated);
     }
-    with_extra(s, at + 4, actor)
+    with_extra(s, h.at + 4, h.actor)
 }
 
 // rpcDestActor at h.at.
-pub(crate) fn actor_header(s: &[u8], h: Headers) -> Next
+#[tactic(auto, unfolding(crate::specs::Headers::actor_of))]
+pub(crate) fn actor_header(s: &[u8], h: Headers) -> Result<Next, Refusal>
     ensures { result ≡ actor_of s.now h }
 {
-    let at = h.at;
-    let actor = h.actor;
-    let timeout = h.timeout;
-    if given(actor) {
-        return Next::Refused(HEADER_REPEATED);
+    if h.actor.is_some() {
+        return Err(Refusal::HeaderRepeated);
     }
-    if left(s, at) < 12 {
-        return Next::Refused(MESSAGE_CUT);
+    if left(s, h.at) < 12 {
+        return Err(Refusal::MessageCut);
     }
-    Next::More(Headers {
-        at: at + 12,
-        actor: Actor::Is(i64_at(s, at + 4)),
-        extra: h.extra,
-        timeout: timeout,
+    Ok(Next::More(Headers {
+        at: h.at + 12,
+        actor: Some(i64_at(s, h.at + 4)),
         tl2: false,
-    })
+        ..h
+    }))
 }
 
 // rpcDestActorFlags at h.at.
-pub(crate) fn both_header(s: &[u8], h: Headers) -> Next
+#[tactic(auto, unfolding(crate::specs::Headers::both_of))]
+pub(crate) fn both_header(s: &[u8], h: Headers) -> Result<Next, Refusal>
     ensures { result ≡ both_of s.now h }
 {
-    let at = h.at;
-    let actor = h.actor;
-    if given(actor) {
-        return Next::Refused(HEADER_REPEATED);
+    if h.actor.is_some() || h.extra {
+        return Err(Refusal::HeaderRepeated);
     }
-    if h.extra {
-        return Next::Refused(HEADER_REPEATED);
+    if left(s, h.at) < 12 {
+        return Err(Refusal::MessageCut);
     }
-    if left(s, at) < 12 {
-        return Next::Refused(MESSAGE_CUT);
-    }
-    with_extra(s, at + 12, Actor::Is(i64_at(s, at + 4)))
+    with_extra(s, h.at + 12, Some(i64_at(s, h.at + 4)))
 }

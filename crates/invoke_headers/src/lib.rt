@@ -8,30 +8,30 @@
 mod fields;
 mod one_header;
 
-use invoke::{Actor, Timeout};
 pub use one_header::next_header;
 
 // What the headers said so far, and where the next one would begin. extra: an extra was read.
+// Kept: extra beside timeout: an extra may have no timeout (its mask is 0), and `Option<Option<u32>>` is no plainer.
 #[derive(Clone, Copy)]
 pub struct Headers {
     pub at: usize,
-    pub actor: Actor,
+    pub actor: Option<i64>,
     pub extra: bool,
-    pub timeout: Timeout,
+    pub timeout: Option<u32>,
     pub tl2: bool,
 }
 
-// What one header leads to: more headers, the payload, or a refusal's number.
+// What one header leads to: more headers, or the payload.
+// Kept: an enum of its own: `ControlFlow<Headers, Headers>` has its shape, and says less by its names.
 #[derive(Clone, Copy)]
 pub enum Next {
     More(Headers),
     Done(Headers),
-    Refused(u8),
 }
 
-// A header's extra, and where it ends; or a refusal's number.
+// A header's extra, and where it ends.
 #[derive(Clone, Copy)]
-pub enum Extra {
-    Is { timeout: Timeout, next: usize },
-    Refused(u8),
+pub struct Extra {
+    pub timeout: Option<u32>,
+    pub next: usize,
 }

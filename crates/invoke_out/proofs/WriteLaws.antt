@@ -6,11 +6,10 @@ use mathlib.Core.List.{List}
 use mathlib.Core.Bool.{Bool}
 use lib.ListN.{length, length-append}
 use lib.IntN.{ℤ}
-use Rattle.invoke.specs.declared.Actor as A
-use Rattle.invoke.specs.declared.Timeout as T
 use Rattle.wire.proofs.ByteLaws.{length-bytes}
 use Rattle.invoke_out.specs.WriteInvoke.{invoke_bytes, invoke_size}
+use Rattle.std.specs.Prelude.{Option}
 
-pub body-length : (n : ℤ) (a : A.Actor) (t : T.Timeout) (m : Bool) (p : List ℕ) → length (invoke_bytes n a t m p) ≡ invoke_size a t m p
+pub body-length : (n : ℤ) (a : Option ℤ) (t : Option ℕ) (m : Bool) (p : List ℕ) → length (invoke_bytes n a t m p) ≡ invoke_size a t m p
 unfolding invoke_bytes invoke_size
 body-length n a t m p = simp (length-append, length-bytes) (omega arith)

@@ -1,25 +1,25 @@
 // The parts of the front, each at its place.
-ghost use Rattle.std.specs.Prelude.{◌≡◌};
+ghost use Rattle.std.specs.Prelude.{◌≡◌, eqb};
 ghost use Rattle.std.proofs.lemmas.List.Edits.{sets};
-ghost use Rattle.key_front.specs.Front.{randoms_of, direction_of, ip_or_time, in_version0, front_of};
+ghost use Rattle.wire.specs.Choice.{pick};
+ghost use Rattle.key_front.specs.Front.{randoms_of, direction_of, front_of};
 
-use super::{End, Ends};
+use super::Ends;
 use store::{put_u16, put_u32};
 use store_bytes::copy;
 
 // The random bytes of both Nonces, the server's first.
-pub fn randoms(s: Ends) -> [u8; 32]
-    ensures { result ≡ randoms_of s }
+pub fn randoms(s: &Ends) -> [u8; 32]
+    ensures { result ≡ randoms_of s.now }
 {
-    let a = s.server.random;
-    let b = s.client.random;
-    let mut r = [0u8; 32];
-    copy(&mut r, 0, &a);
-    copy(&mut r, 16, &b);
+    let mut r = [0; 32];
+    r[..16].copy_from_slice(&s.server.random);
+    r[16..].copy_from_slice(&s.client.random);
     r
 }
 
 // Which direction the keys are for.
+#[tactic(auto, unfolding(crate::specs::Front::direction_of))]
 fn put_direction(buf: &mut [u8], server: bool)
     ensures { buf.new ≡ sets buf.old 42 (direction_of server) }
 {
@@ -30,36 +30,22 @@ fn put_direction(buf: &mut [u8], server: bool)
     }
 }
 
-// In version 0 the server's address, later its time.
-fn ip_or_time(version: u8, server: End) -> u32
-    ensures { result ≡ ip_or_time version server }
+// One thing in version 0, another in later versions.
+fn by_version<T: Copy>(version: u8, first: T, later: T) -> T
+    ensures { result ≡ pick (eqb version 0) first later }
 {
-    if version == 0 { server.ip } else { server.time }
-}
-
-// Addresses and ports stand in version 0 only.
-fn address(version: u8, ip: u32) -> u32
-    ensures { result ≡ in_version0 version ip }
-{
-    if version == 0 { ip } else { 0 }
-}
-
-fn port(version: u8, port: u16) -> u16
-    ensures { result ≡ in_version0 version port }
-{
-    if version == 0 { port } else { 0 }
+    if version == 0 { first } else { later }
 }
 
 // All that stands before the key: 54 bytes.
-pub fn put_front(buf: &mut [u8], version: u8, server: bool, s: Ends)
-    ensures { buf.new ≡ sets buf.old 0 (front_of version server s) }
+pub fn put_front(buf: &mut [u8], version: u8, server: bool, s: &Ends)
+    ensures { buf.new ≡ sets buf.old 0 (front_of version server s.now) }
 {
-    let r = randoms(s);
-    copy(buf, 0, &r);
+    copy(buf, 0, &randoms(s));
     put_u32(buf, 32, s.client.time);
-    put_u32(buf, 36, ip_or_time(version, s.server));
-    put_u16(buf, 40, port(version, s.client.port));
+    put_u32(buf, 36, by_version(version, s.server.ip, s.server.time));
+    put_u16(buf, 40, by_version(version, s.client.port, 0));
     put_direction(buf, server);
-    put_u32(buf, 48, address(version, s.client.ip));
-    put_u16(buf, 52, port(version, s.server.port));
+    put_u32(buf, 48, by_version(version, s.client.ip, 0));
+    put_u16(buf, 52, by_version(version, s.server.port, 0));
 }

@@ -1,11 +1,11 @@
 // The message whole.
-ghost use Rattle.std.specs.Prelude.{◌≡◌, ◌≤◌, length};
+ghost use Rattle.std.specs.Prelude.{◌≡◌, ◌≤◌, length, IfOk};
 ghost use Rattle.std.proofs.lemmas.List.Edits.{sets};
 ghost use Rattle.key_message.specs.Message.{size_of, message, size_or_refusal, message_buffer};
 
-use super::InitMessage;
-use key_front::{Ends, put_front, randoms};
-use refusal::{BUFFER_TOO_SMALL, OUT_OF_RANGE, UNSUITABLE_KEY};
+use super::Derivation;
+use key_front::{put_front, randoms};
+use refusal::Refusal;
 use store_bytes::copy;
 
 // The longest key, and the newest version.
@@ -14,6 +14,7 @@ const LONGEST_KEY: usize = 4096;
 const NEWEST_VERSION: u8 = 2;
 
 // How long the message is with a key of so many bytes.
+#[tactic(auto, unfolding(crate::specs::Message::size_of))]
 fn size(version: u8, key: usize) -> usize
     requires { key ≤ 4096 }
     ensures { result ≡ size_of version key }
@@ -21,56 +22,49 @@ fn size(version: u8, key: usize) -> usize
     if version == 2 { 118 + key } else { 86 + key }
 }
 
-fn size_or_refusal(version: u8, key: usize, room: usize) -> InitMessage
-    ensures { result ≡ size_or_refusal version key room }
+#[tactic(auto, unfolding(crate::specs::Message::size_or_refusal))]
+fn size_or_refusal(version: u8, key: usize, room: usize) -> Result<usize, Refusal>
+    ensures answer { result ≡ size_or_refusal version key room }
+    ensures told { IfOk result (λ n. (key ≤ 4096) × ((n ≤ room) × (n ≡ size_of version key))) }
 {
     if LONGEST_KEY < key {
-        return InitMessage::Refused(UNSUITABLE_KEY);
+        return Err(Refusal::UnsuitableKey);
     }
     if NEWEST_VERSION < version {
-        return InitMessage::Refused(OUT_OF_RANGE);
+        return Err(Refusal::OutOfRange);
     }
     let n = size(version, key);
     if room < n {
-        return InitMessage::Refused(BUFFER_TOO_SMALL);
+        return Err(Refusal::BufferTooSmall);
     }
-    InitMessage::Size(n)
+    Ok(n)
 }
 
-fn put_message(buf: &mut [u8], version: u8, server: bool, s: Ends, key: &[u8], shared: [u8; 32])
+fn put_message(buf: &mut [u8], what: &Derivation, key: &[u8])
     requires { length key.now ≤ 4096 }
-    ensures { buf.new
-        ≡ sets buf.old 0 (message version server s key.now shared) }
+    ensures stored { buf.new ≡ sets buf.old 0
+        (message what.now.version what.now.server what.now.ends key.now what.now.shared) }
+    ensures size { length (message what.now.version what.now.server what.now.ends key.now what.now.shared)
+        ≡ size_of what.now.version (length key.now) }
 {
-    put_front(buf, version, server, s);
+    put_front(buf, what.version, what.server, &what.ends);
     copy(buf, 54, key);
     let at = 54 + key.len();
-    let r = randoms(s);
-    copy(buf, at, &r);
-    if version == 2 {
-        copy(buf, at + 32, &shared);
+    copy(buf, at, &randoms(&what.ends));
+    if what.version == 2 {
+        copy(buf, at + 32, &what.shared);
     }
 }
 
-// The message for the keys of a version, of the direction from the server or from the client, with the key that both
-// sides have and, for version 2, the 32 bytes that they share by Diffie-Hellman.
-pub fn write_message(
-    buf: &mut [u8],
-    version: u8,
-    server: bool,
-    s: Ends,
-    key: &[u8],
-    shared: [u8; 32],
-) -> InitMessage
-    ensures { (result ≡ size_or_refusal version (length key.now) (length buf.old))
-        × (buf.new ≡ message_buffer version server s key.now shared buf.old) }
+// The message of a derivation, with the key that both sides have.
+pub fn write_message(buf: &mut [u8], what: &Derivation, key: &[u8]) -> Result<usize, Refusal>
+    ensures answer { result ≡ size_or_refusal what.now.version (length key.now) (length buf.old) }
+    ensures buffer { buf.new ≡ message_buffer what.now.version what.now.server what.now.ends key.now
+        what.now.shared buf.old }
+    ensures size { IfOk result (λ n. (n ≤ length buf.old)
+        × (length (message what.now.version what.now.server what.now.ends key.now what.now.shared) ≡ n)) }
 {
-    let answer = size_or_refusal(version, key.len(), buf.len());
-    match answer {
-        InitMessage::Refused(k) => InitMessage::Refused(k),
-        InitMessage::Size(n) => {
-            put_message(buf, version, server, s, key, shared);
-            InitMessage::Size(n)
-        }
-    }
+    let size = size_or_refusal(what.version, key.len(), buf.len())?;
+    put_message(buf, what, key);
+    Ok(size)
 }

@@ -4,35 +4,38 @@ ghost use Rattle.key_message.specs.Message.{message_buffer};
 ghost use Rattle.link_keys.specs.Keys.{derived};
 ghost use Rattle.keys_c.specs.KeyFields.{derived_fields};
 
-use crate::{RelayDerivation, RelayDerived};
-use key_message::InitMessage;
+use crate::RelayDerived;
+use key_message::Derivation;
 use link_keys::{Derived, derive};
+use refusal::Refusal;
 
-fn derived_fields(d: Derived) -> RelayDerived
-    ensures { result ≡ derived_fields d }
+#[tactic(auto, unfolding(crate::specs::KeyFields::derived_fields))]
+fn derived_fields(derived: Result<Derived, Refusal>) -> RelayDerived
+    ensures { result ≡ derived_fields derived }
 {
-    let answer = d.answer;
-    let key = d.key;
-    let vector = d.vector;
-    match answer {
-        InitMessage::Size(n) => RelayDerived {
-            refusal: 0,
-            size: n,
-            key,
-            vector,
-        },
-        InitMessage::Refused(k) => RelayDerived {
-            refusal: k,
+    match derived {
+        Ok(d) => {
+            let key = d.key;
+            let vector = d.vector;
+            RelayDerived {
+                refusal: 0,
+                size: d.size,
+                key,
+                vector,
+            }
+        }
+        Err(refusal) => RelayDerived {
+            refusal: u8::from(refusal),
             size: 0,
-            key,
-            vector,
+            key: [0; 32],
+            vector: [0; 16],
         },
     }
 }
 
 // The keys of one direction; the init message stands at the buffer's front afterwards.
 #[unsafe(no_mangle)]
-pub extern "C" fn relay_derive(buf: &mut [u8], what: RelayDerivation, key: &[u8]) -> RelayDerived
+pub extern "C" fn relay_derive(buf: &mut [u8], what: Derivation, key: &[u8]) -> RelayDerived
     ensures { (result ≡ derived_fields
         (derived what.version what.server what.ends
         key.now what.shared buf.old))
@@ -40,8 +43,5 @@ pub extern "C" fn relay_derive(buf: &mut [u8], what: RelayDerivation, key: &[u8]
         ≡ message_buffer what.version what.server what.ends
         key.now what.shared buf.old) }
 {
-    let ends = what.ends;
-    let shared = what.shared;
-    let d = derive(buf, what.version, what.server, ends, key, shared);
-    derived_fields(d)
+    derived_fields(derive(buf, &what, key))
 }

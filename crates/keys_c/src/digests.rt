@@ -10,8 +10,9 @@ use crate::{RelayMd5, RelaySha1};
 pub extern "C" fn relay_md5(s: &[u8]) -> RelayMd5
     ensures { result.bytes ≡ md5 s.now }
 {
-    let bytes = md5_hash::md5(s);
-    RelayMd5 { bytes }
+    RelayMd5 {
+        bytes: md5_hash::md5(s),
+    }
 }
 
 // SHA-1 of s.
@@ -19,6 +20,7 @@ pub extern "C" fn relay_md5(s: &[u8]) -> RelayMd5
 pub extern "C" fn relay_sha1(s: &[u8]) -> RelaySha1
     ensures { result.bytes ≡ sha1 s.now }
 {
-    let bytes = sha1_hash::sha1(s);
-    RelaySha1 { bytes }
+    RelaySha1 {
+        bytes: sha1_hash::sha1(s),
+    }
 }

@@ -1,8 +1,8 @@
 // The C interface of a link's keys: each exported function wraps one call of the library and has its contract.
 //
 // Digests, keys and vectors pass as arrays in structs, a part of the caller's bytes as a place and a length. Nothing
-// here decides anything: what a call answers is said by the crate that it wraps. The types that matter are
-// `RelayDerivation` and `RelayDerived`.
+// here decides anything: what a call answers is said by the crate that it wraps. The type that matters is
+// `RelayDerived`; what a derivation takes is the library's `Derivation`, with its fields in C's order.
 #![tactic(auto)]
 
 mod clearing;
@@ -13,7 +13,6 @@ mod nonces;
 pub use clearing::relay_clear;
 pub use derivation::relay_derive;
 pub use digests::{relay_md5, relay_sha1};
-use key_front::Ends;
 use nonce_in::Place;
 pub use nonces::relay_read_nonce;
 
@@ -30,6 +29,7 @@ pub struct RelaySha1 {
 }
 
 // The fields of a Nonce; or, where refusal is not 0, the refusal's number, and then all else is 0.
+// Kept: numbers and flags in place of a `Result` or an `Option`, since the C interface has these fields.
 #[repr(C)]
 #[derive(Clone, Copy)]
 pub struct RelayNonceFields {
@@ -40,19 +40,9 @@ pub struct RelayNonceFields {
     pub point: Place,
 }
 
-// Which keys: of what version, for what the server sends or the client, from what both Nonces and the connection say,
-// and with the shared bytes that version 2 uses.
-#[repr(C)]
-#[derive(Clone, Copy)]
-pub struct RelayDerivation {
-    pub version: u8,
-    pub server: bool,
-    pub ends: Ends,
-    pub shared: [u8; 32],
-}
-
 // How many bytes the init message takes at the front of the buffer, with key and vector; or, where refusal is not 0,
 // the refusal's number, and then all else is 0 and no byte was written.
+// Kept: numbers and flags in place of a `Result` or an `Option`, since the C interface has these fields.
 #[repr(C)]
 #[derive(Clone, Copy)]
 pub struct RelayDerived {

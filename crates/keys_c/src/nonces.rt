@@ -1,33 +1,26 @@
 // A Nonce's fields.
 ghost use Rattle.std.specs.Prelude.{◌≡◌};
 ghost use Rattle.nonce_in.specs.Fields.{nonce_of};
-ghost use Rattle.nonce_in.specs.declared.NonceRead.TheVariants.{Fields};
 ghost use Rattle.keys_c.specs.KeyFields.{nonce_fields};
 
 use crate::RelayNonceFields;
-use nonce_in::{NonceFields, NonceRead, Place, nonce_fields};
+use nonce_in::{NonceFields, Place, nonce_fields};
+use refusal::Refusal;
 
-fn as_read(f: NonceFields) -> RelayNonceFields
-    ensures { result ≡ nonce_fields (Fields f) }
+#[tactic(auto, unfolding(crate::specs::KeyFields::nonce_fields))]
+fn read_fields(read: Result<NonceFields, Refusal>) -> RelayNonceFields
+    ensures { result ≡ nonce_fields read }
 {
-    let random = f.random;
-    let point = f.point;
-    RelayNonceFields {
-        refusal: 0,
-        version: f.version,
-        time: f.time,
-        random,
-        point,
-    }
-}
-
-fn read_fields(n: NonceRead) -> RelayNonceFields
-    ensures { result ≡ nonce_fields n }
-{
-    match n {
-        NonceRead::Fields(f) => as_read(f),
-        NonceRead::Refused(k) => RelayNonceFields {
-            refusal: k,
+    match read {
+        Ok(f) => RelayNonceFields {
+            refusal: 0,
+            version: f.version,
+            time: f.time,
+            random: f.random,
+            point: f.point,
+        },
+        Err(refusal) => RelayNonceFields {
+            refusal: u8::from(refusal),
             version: 0,
             time: 0,
             random: Place { at: 0, len: 0 },

@@ -14,22 +14,22 @@ ghost use Rattle.link.specs.Receive.{receive_of};
 
 use link_state::{Link, Moment};
 use packet::Arrival;
+use refusal::Refusal;
 pub use step::receive_step;
 
 // The link after a receive call, and the answer.
 #[derive(Clone, Copy)]
 pub struct Received {
     pub link: Link,
-    pub answer: Arrival,
+    pub answer: Result<Arrival, Refusal>,
 }
 
 // The link is lent, and updated where it stands.
-pub fn receive(link: &mut Link, bytes: &[u8], moment: Moment) -> Arrival
+pub fn receive(link: &mut Link, bytes: &[u8], moment: Moment) -> Result<Arrival, Refusal>
     ensures { (result ≡ (receive_of link.old bytes.now moment).answer)
         × (link.new ≡ (receive_of link.old bytes.now moment).link) }
 {
-    let l = *link;
-    let r = receive_step(l, bytes, moment);
+    let r = receive_step(*link, bytes, moment);
     *link = r.link;
     r.answer
 }

@@ -1,33 +1,31 @@
 // Whether the other side may send now, and what stands at the front of the bytes, but for the body.
 ghost use Rattle.std.specs.Prelude.{◌≡◌};
-ghost use Rattle.link.specs.Look.{turn_refusal, look_of};
+ghost use Rattle.link.specs.Look.{check_turn, look_of};
 
 use link_state::{Link, may_send};
 use packet::Arrival;
 use packet_in::frame;
-use refusal::{LINK_CLOSED, NOT_OUR_TURN};
+use refusal::Refusal;
 
-// A refusal's number, or 0.
-fn turn_refusal(link: Link) -> u8
-    ensures { result ≡ turn_refusal link }
+// Refuses all packets where the other side may not send now.
+#[tactic(auto, unfolding(crate::specs::Look::check_turn))]
+fn check_turn(link: Link) -> Result<(), Refusal>
+    ensures { result ≡ check_turn link }
 {
     if link.closed {
-        return LINK_CLOSED;
+        return Err(Refusal::LinkClosed);
     }
     let server = link.set.server;
-    if may_send(!server, link.stage) {
-        0
-    } else {
-        NOT_OUR_TURN
+    if !may_send(!server, link.stage) {
+        return Err(Refusal::NotOurTurn);
     }
+    Ok(())
 }
 
-pub(crate) fn look(link: Link, bytes: &[u8]) -> Arrival
+#[tactic(auto, unfolding(crate::specs::Look::look_of))]
+pub(crate) fn look(link: Link, bytes: &[u8]) -> Result<Arrival, Refusal>
     ensures { result ≡ look_of link bytes.now }
 {
-    let early = turn_refusal(link);
-    if early != 0 {
-        return Arrival::Refused(early);
-    }
+    check_turn(link)?;
     frame(link, bytes)
 }

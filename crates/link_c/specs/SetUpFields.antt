@@ -1,9 +1,9 @@
 -- What set-up answers, as a struct for C. Assumes nothing.
-use Rattle.std.specs.Prelude.{true, false}
+use Rattle.std.specs.Prelude.{true, false, Err, Result, Ok}
 use Rattle.link_state.specs.declared.Link.{Link}
-use Rattle.link_state.specs.declared.SetUp.{SetUp}
-use Rattle.link_state.specs.declared.SetUp.TheVariants.{Ready, Refused}
 use Rattle.link_c.specs.declared.RelaySetUp.{RelaySetUp}
+use Rattle.refusal.specs.Numbers.{number}
+use Rattle.refusal.specs.declared.Refusal.{Refusal}
 
 -- a link for settings or a key that are refused: it is closed, and all else is 0 or false
 unfoldable pub no_link : Link
@@ -25,8 +25,8 @@ no_link =
       owed = 0;
     }
 
-unfoldable pub set_up_fields : SetUp → RelaySetUp
+unfoldable pub set_up_fields : Result Link Refusal → RelaySetUp
 -- 0 and the link
-set_up_fields (Ready l) = record { refusal = 0; link = l }
+set_up_fields (Ok l) = record { refusal = 0; link = l }
 -- the refusal's number
-set_up_fields (Refused k) = record { refusal = k; link = no_link }
+set_up_fields (Err k) = record { refusal = number k; link = no_link }

@@ -18,6 +18,7 @@ pub use start::{relay_set_up, relay_set_up_with_key};
 pub use times::relay_clock_difference;
 
 // A link that was set up. refusal is the refusal's number, or 0: then the link is ready.
+// Kept: numbers and flags in place of a `Result` or an `Option`, since the C interface has these fields.
 #[repr(C)]
 #[derive(Clone, Copy)]
 pub struct RelaySetUp {
@@ -26,6 +27,7 @@ pub struct RelaySetUp {
 }
 
 // A part of the bytes: the len bytes from byte at on.
+// Kept: a place and a length, since the C interface has these fields.
 #[repr(C)]
 #[derive(Clone, Copy)]
 pub struct RelayPart {
@@ -34,6 +36,7 @@ pub struct RelayPart {
 }
 
 // Their time minus ours, where the clocks are near; else 0.
+// Kept: numbers and flags in place of a `Result` or an `Option`, since the C interface has these fields.
 #[repr(C)]
 #[derive(Clone, Copy)]
 pub struct RelayClock {

@@ -13,6 +13,7 @@ fn no_part() -> RelayPart
 
 // Where the body of the packet that was answered is; no bytes where there was none, or the bytes do not have it.
 #[unsafe(no_mangle)]
+#[tactic(auto, unfolding(crate::specs::BodyPlace::body_place))]
 pub extern "C" fn relay_body(bytes: &[u8], arrival: RelayArrival) -> RelayPart
     ensures { result ≡ body_place (length bytes.now) arrival }
 {

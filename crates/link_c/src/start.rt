@@ -1,13 +1,14 @@
 // Setting up a link.
-ghost use Rattle.std.specs.Prelude.{◌≡◌};
-ghost use Rattle.std.proofs.Math.Option.{none, some};
+ghost use Rattle.std.specs.Prelude.{◌≡◌, None, Some};
 ghost use Rattle.link_state.specs.SetUp.{set_up_of};
 ghost use Rattle.link_c.specs.SetUpFields.{no_link, set_up_fields};
 
 use crate::RelaySetUp;
-use link_state::{Link, SetUp, Settings, set_up, set_up_with_key};
+use link_state::{Link, Settings, set_up, set_up_with_key};
+use refusal::Refusal;
 
 // A link that refuses every call.
+#[tactic(auto, unfolding(crate::specs::SetUpFields::no_link))]
 fn no_link() -> Link
     ensures { result ≡ no_link }
 {
@@ -36,30 +37,33 @@ fn no_link() -> Link
     }
 }
 
-fn set_up_fields(s: SetUp) -> RelaySetUp
-    ensures { result ≡ set_up_fields s }
-{
-    match s {
-        SetUp::Ready(link) => RelaySetUp { refusal: 0, link },
-        SetUp::Refused(k) => RelaySetUp {
-            refusal: k,
-            link: no_link(),
-        },
+impl From<Result<Link, Refusal>> for RelaySetUp {
+    ghost from_gives = { λ answer fields. fields ≡ set_up_fields answer };
+
+    #[tactic(auto, unfolding(crate::specs::SetUpFields::set_up_fields))]
+    fn from(answer: Result<Link, Refusal>) -> RelaySetUp {
+        match answer {
+            Ok(link) => RelaySetUp { refusal: 0, link },
+            Err(refusal) => RelaySetUp {
+                refusal: u8::from(refusal),
+                link: no_link(),
+            },
+        }
     }
 }
 
 // A link without a key, before its opening.
 #[unsafe(no_mangle)]
 pub extern "C" fn relay_set_up(set: Settings) -> RelaySetUp
-    ensures { result ≡ set_up_fields (set_up_of set none) }
+    ensures { result ≡ set_up_fields (set_up_of set None) }
 {
-    set_up_fields(set_up(set))
+    RelaySetUp::from(set_up(set))
 }
 
 // A link with a key, before its opening. It keeps the key's first four bytes alone.
 #[unsafe(no_mangle)]
 pub extern "C" fn relay_set_up_with_key(set: Settings, key: &[u8]) -> RelaySetUp
-    ensures { result ≡ set_up_fields (set_up_of set (some key.now)) }
+    ensures { result ≡ set_up_fields (set_up_of set (Some key.now)) }
 {
-    set_up_fields(set_up_with_key(set, key))
+    RelaySetUp::from(set_up_with_key(set, key))
 }

@@ -5,20 +5,23 @@ ghost use Rattle.link_c.specs.ClockFields.{clock_fields};
 
 use crate::RelayClock;
 use link_state::Moment;
-use opening::{Clock, clock_difference};
+use opening::clock_difference;
 
-fn clock_fields(c: Clock) -> RelayClock
-    ensures { result ≡ clock_fields c }
-{
-    match c {
-        Clock::Near(d) => RelayClock {
-            near: true,
-            difference: d,
-        },
-        Clock::Far => RelayClock {
-            near: false,
-            difference: 0,
-        },
+impl From<Option<i64>> for RelayClock {
+    ghost from_gives = { λ answer fields. fields ≡ clock_fields answer };
+
+    #[tactic(auto, unfolding(crate::specs::ClockFields::clock_fields))]
+    fn from(answer: Option<i64>) -> RelayClock {
+        match answer {
+            Some(d) => RelayClock {
+                near: true,
+                difference: d,
+            },
+            None => RelayClock {
+                near: false,
+                difference: 0,
+            },
+        }
     }
 }
 
@@ -27,5 +30,5 @@ fn clock_fields(c: Clock) -> RelayClock
 pub extern "C" fn relay_clock_difference(body: &[u8], moment: Moment) -> RelayClock
     ensures { result ≡ clock_fields (nonce_clock body.now moment) }
 {
-    clock_fields(clock_difference(body, moment))
+    RelayClock::from(clock_difference(body, moment))
 }

@@ -5,40 +5,27 @@
 #![tactic(auto)]
 
 mod flushing;
-mod print;
 mod receiving;
 mod sending;
-mod space;
 
-use link_state::{Link, SetUp, Settings};
-use print::refused;
-use space::{fill, front, whole};
+use check_records::{each_record, fill, fill_front, front, refused};
+use link_state::{Link, Settings};
 use std::io::{self, Read};
 
-// The link after a record, and whether there was one.
-#[derive(Clone, Copy)]
-pub struct Turn {
-    pub link: Link,
-    pub more: bool,
-}
-
-// A link with these settings and this key, or without one if it is empty; or the old one where they are refused; and the
-// line.
-fn set_up(out: &impl Print, old: Link, set: Settings, key: &[u8]) -> io::Result<Link> {
-    let made = if key.len() == 0 {
+// Puts in the link's place one with these settings and this key, or without one if it is empty; the old one stays where
+// they are refused; and the line.
+fn set_up(out: &impl Print, link: &mut Link, set: Settings, key: &[u8]) -> io::Result<()> {
+    let made = if key.is_empty() {
         link_state::set_up(set)
     } else {
         link_state::set_up_with_key(set, key)
     };
     match made {
-        SetUp::Ready(link) => {
-            print!(out; "link")?;
-            Ok(link)
+        Ok(next) => {
+            *link = next;
+            print!(out; "link")
         }
-        SetUp::Refused(n) => {
-            refused(out, n)?;
-            Ok(old)
-        }
+        Err(refusal) => refused(out, refusal),
     }
 }
 
@@ -48,23 +35,17 @@ fn set_up(out: &impl Print, old: Link, set: Settings, key: &[u8]) -> io::Result<
 fn begin(
     input: &mut impl Read,
     out: &impl Print,
-    old: Link,
+    link: &mut Link,
     n: usize,
     lent: &mut [u8],
-) -> io::Result<Turn> {
+) -> io::Result<bool> {
     let mut head = [0u8; 8];
-    if !fill(input, &mut head, n)? {
-        return Ok(Turn {
-            link: old,
-            more: false,
-        });
+    if !fill_front(input, &mut head, n)? {
+        return Ok(false);
     }
-    let size = wire::u16_at(&head, 6) as usize;
-    if !fill(input, lent, size)? {
-        return Ok(Turn {
-            link: old,
-            more: false,
-        });
+    let size = usize::from(wire::u16_at(&head, 6));
+    if !fill_front(input, lent, size)? {
+        return Ok(false);
     }
     let set = Settings {
         server: head[0] == 1,
@@ -74,32 +55,26 @@ fn begin(
         cipher: head[4] == 1,
         only: head[5] == 1,
     };
-    Ok(Turn {
-        link: set_up(out, old, set, front(lent, size))?,
-        more: true,
-    })
+    set_up(out, link, set, front(lent, size))?;
+    Ok(true)
 }
 
 // Operation 6.
-fn ciphered(out: &impl Print, link: Link) -> io::Result<Turn> {
-    if link.ciphered {
-        print!(out; "cipher")?;
-    } else {
-        print!(out; "clear")?;
-    }
-    Ok(Turn { link, more: true })
+fn ciphered(out: &impl Print, link: &Link) -> io::Result<bool> {
+    print!(out; "{}", if link.ciphered { "cipher" } else { "clear" })?;
+    Ok(true)
 }
 
 fn operation(
     input: &mut impl Read,
     out: &impl Print,
     op: u8,
-    link: Link,
+    link: &mut Link,
     lent: &mut [u8],
-) -> io::Result<Turn> {
+) -> io::Result<bool> {
     match op {
         0 => begin(input, out, link, 2, lent),
-        1 => receiving::receive(input, out, link, lent),
+        1 => receiving::receive_record(input, out, link, lent),
         2 => sending::send_record(input, out, link, lent),
         3 => begin(input, out, link, 8, lent),
         6 => ciphered(out, link),
@@ -107,45 +82,27 @@ fn operation(
     }
 }
 
-// One record.
+// One record, and its line; false where there is none. The link is lent, and updated where it stands.
 fn record(
     input: &mut impl Read,
     out: &impl Print,
-    link: Link,
+    link: &mut Link,
     lent: &mut [u8],
-) -> io::Result<Turn> {
+) -> io::Result<bool> {
     let mut op = [0u8; 1];
-    if !whole(input, &mut op)? {
-        return Ok(Turn { link, more: false });
+    if !fill(input, &mut op)? || !operation(input, out, op[0], link, lent)? {
+        return Ok(false);
     }
-    let turn = operation(input, out, op[0], link, lent)?;
-    if turn.more {
-        print::end(out, turn.link.closed)?;
+    if link.closed {
+        print!(out; " closed")?;
     }
-    Ok(turn)
-}
-
-fn records(
-    input: &mut impl Read,
-    out: &impl Print,
-    first: Link,
-    lent: &mut [u8],
-) -> io::Result<()> {
-    let mut link = first;
-    for _ in 0..u64::MAX {
-        let turn = record(input, out, link, lent)?;
-        if !turn.more {
-            break;
-        }
-        link = turn.link;
-    }
-    Ok(())
+    println!(out)?;
+    Ok(true)
 }
 
 fn main(rt: HostRuntime) -> io::Result<()> {
     let mut input = rt.reader();
     let mut space = [0u8; 81920];
-    let lent: &mut [u8] = &mut space;
     let set = Settings {
         server: false,
         allows: false,
@@ -154,8 +111,8 @@ fn main(rt: HostRuntime) -> io::Result<()> {
         cipher: false,
         only: false,
     };
-    match link_state::set_up(set) {
-        SetUp::Ready(link) => records(&mut input, &rt, link, lent),
-        SetUp::Refused(_) => Ok(()),
-    }
+    let Ok(mut link) = link_state::set_up(set) else {
+        return Ok(());
+    };
+    each_record(|| record(&mut input, &rt, &mut link, &mut space))
 }

@@ -1,75 +1,62 @@
 // Operation 1: a receive call.
-use crate::Turn;
-use crate::print::{hexadecimal, number, refused, signed};
-use crate::space::{fill, front, size, whole};
-use link::receive_step;
+use check_records::{fill, fill_front, front, refused};
 use link_state::{Link, Moment};
-use opening::Clock;
 use packet::{Arrival, NONCE};
+use refusal::Refusal;
 use std::io::{self, Read};
 
-// The clock difference that a Nonce's body gives.
-fn print_clock(out: &impl Print, body: &[u8], moment: Moment) -> io::Result<()> {
-    match opening::clock_difference(body, moment) {
-        Clock::Near(difference) => {
-            print!(out; " clock")?;
-            signed(out, difference)
-        }
-        Clock::Far => Ok(()),
-    }
-}
-
-fn print_answer(out: &impl Print, answer: Arrival, s: &[u8], moment: Moment) -> io::Result<()> {
+// Of a Nonce, the clock difference that its body gives too.
+fn print_answer(
+    out: &impl Print,
+    answer: Result<Arrival, Refusal>,
+    s: &[u8],
+    moment: Moment,
+) -> io::Result<()> {
     match answer {
-        Arrival::Incomplete(more) => {
-            print!(out; "wait")?;
-            number(out, more as u64)
-        }
-        Arrival::Packet {
-            kind,
-            consumed,
-            at,
-            len,
-        } => {
-            print!(out; "packet")?;
-            hexadecimal(out, kind)?;
-            number(out, consumed as u64)?;
-            number(out, at as u64)?;
-            number(out, len as u64)?;
-            if kind == NONCE {
-                print_clock(out, packet::body(s, answer), moment)?;
+        Ok(Arrival::Incomplete(more)) => print!(out; "wait {more}"),
+        Ok(
+            Arrival::Packet {
+                kind,
+                consumed,
+                at,
+                len,
+            },
+        ) => {
+            print!(out; "packet {kind:08x} {consumed} {at} {len}")?;
+            if kind == NONCE
+                && let Some(difference) = opening::clock_difference(
+                    packet::body(s, answer),
+                    moment,
+                )
+            {
+                print!(out; " clock {difference}")?;
             }
             Ok(())
         }
-        Arrival::Refused(n) => refused(out, n),
+        Err(refusal) => refused(out, refusal),
     }
 }
 
 // Our time (4), n (4), n bytes.
-pub(crate) fn receive(
+pub(crate) fn receive_record(
     input: &mut impl Read,
     out: &impl Print,
-    link: Link,
+    link: &mut Link,
     lent: &mut [u8],
-) -> io::Result<Turn> {
+) -> io::Result<bool> {
     let mut head = [0u8; 8];
-    if !whole(input, &mut head)? {
-        return Ok(Turn { link, more: false });
+    if !fill(input, &mut head)? {
+        return Ok(false);
     }
     let moment = Moment {
         time: wire::u32_at(&head, 0),
     };
-    let n = size(wire::u32_at(&head, 4));
-    if !fill(input, lent, n)? {
-        return Ok(Turn { link, more: false });
+    let n = wire::u32_at(&head, 4) as usize;
+    if !fill_front(input, lent, n)? {
+        return Ok(false);
     }
     let s = front(lent, n);
-    let r = receive_step(link, s, moment);
-    let answer = r.answer;
-    let next = r.link;
+    let answer = link::receive(link, s, moment);
     print_answer(out, answer, s, moment)?;
-    Ok(Turn {
-        link: next,
-        more: true,
-    })
+    Ok(true)
 }

@@ -1,32 +1,12 @@
 // Operation 2: a send call.
-use crate::Turn;
-use crate::print::{hexadecimal, number, refused};
-use crate::space::{fill, front, least, size, whole};
+use check_records::{array, fill, fill_front, front, refused, sum};
 use handshake_in::NetPid;
-use invoke::{Actor, Timeout};
 use link_state::{Link, Moment};
 use message_out::Outgoing;
 use nonce_out::Drawn;
-use packet_out::Sent;
-use send::{ToSend, send_step};
-use send_rules::Step;
+use refusal::Refusal;
+use send::{ToSend, send};
 use std::io::{self, Read};
-
-fn actor_of(given: u8, actor: i64) -> Actor {
-    if given == 1 {
-        Actor::Is(actor)
-    } else {
-        Actor::Absent
-    }
-}
-
-fn timeout_of(given: u8, ms: u32) -> Timeout {
-    if given == 1 {
-        Timeout::Ms(ms)
-    } else {
-        Timeout::Absent
-    }
-}
 
 // The message whose fields stand in head from byte 57 on.
 fn message_of(head: &[u8]) -> Outgoing {
@@ -35,8 +15,8 @@ fn message_of(head: &[u8]) -> Outgoing {
     match kind {
         0 => Outgoing::Invoke {
             number,
-            actor: actor_of(wire::u8_at(head, 66), wire::i64_at(head, 67)),
-            timeout: timeout_of(wire::u8_at(head, 75), wire::u32_at(head, 76)),
+            actor: (wire::u8_at(head, 66) == 1).then_some(wire::i64_at(head, 67)),
+            timeout: (wire::u8_at(head, 75) == 1).then_some(wire::u32_at(head, 76)),
             tl2: wire::u8_at(head, 80) == 1,
         },
         1 => Outgoing::Cancel(number),
@@ -79,48 +59,28 @@ fn what_of(head: &[u8]) -> ToSend {
 pub(crate) fn print_answer(
     out: &impl Print,
     word: &str,
-    answer: Sent,
+    answer: Result<usize, Refusal>,
     buffer: &[u8],
 ) -> io::Result<()> {
     match answer {
-        Sent::Refused(n) => refused(out, n),
-        Sent::Written(k) => {
-            print!(out; "{word}")?;
-            number(out, k as u64)?;
-            hexadecimal(out, checksum::crc32(buffer))?;
-            hexadecimal(out, checksum::crc32c(buffer))
+        Err(refusal) => refused(out, refusal),
+        Ok(size) => {
+            print!(out; "{word} {size}")?;
+            sum(out, checksum::crc32(buffer))?;
+            sum(out, checksum::crc32c(buffer))
         }
     }
 }
 
 // The call that head tells, with these bytes as the payload or text; of a Nonce the first 32 are the point.
-fn call(link: Link, buffer: &mut [u8], head: &[u8], payload: &[u8]) -> Step {
-    let mut random = [0u8; 16];
-    store_bytes::copy(&mut random, 0, wire::part(head, 5, 16));
-    let mut point = [0u8; 32];
-    store_bytes::copy(&mut point, 0, front(payload, 32));
+fn call(link: &mut Link, buffer: &mut [u8], head: &[u8], payload: &[u8]) -> Result<usize, Refusal> {
+    let random = array(wire::part(head, 5, 16));
+    let point = array(front(payload, 32));
     let moment = Moment {
         time: wire::u32_at(head, 1),
     };
-    send_step(
-        link,
-        buffer,
-        what_of(head),
-        payload,
-        Drawn { random, point },
-        moment,
-    )
-}
-
-// The call on a buffer of as many bytes as head tells, and its line.
-fn call_and_print(out: &impl Print, link: Link, head: &[u8], payload: &[u8]) -> io::Result<Link> {
-    let mut space = [0xa5u8; 81920];
-    let buffer: &mut [u8] = &mut space;
-    let room = least(size(wire::u32_at(head, 53)), buffer.len());
-    let r = call(link, &mut buffer[0..room], head, payload);
-    let answer = r.answer;
-    print_answer(out, "sent", answer, front(buffer, room))?;
-    Ok(r.link)
+    let drawn = Drawn { random, point };
+    send(link, buffer, payload, what_of(head), drawn, moment)
 }
 
 // Kind (1), time (4), random (16), own NetPID (12), peer's (12), Ping's ID (8), room (4), the fields of a message (28), n (4),
@@ -128,19 +88,21 @@ fn call_and_print(out: &impl Print, link: Link, head: &[u8], payload: &[u8]) -> 
 pub(crate) fn send_record(
     input: &mut impl Read,
     out: &impl Print,
-    link: Link,
+    link: &mut Link,
     lent: &mut [u8],
-) -> io::Result<Turn> {
+) -> io::Result<bool> {
     let mut head = [0u8; 89];
-    if !whole(input, &mut head)? {
-        return Ok(Turn { link, more: false });
+    if !fill(input, &mut head)? {
+        return Ok(false);
     }
-    let n = size(wire::u32_at(&head, 85));
-    if !fill(input, lent, n)? {
-        return Ok(Turn { link, more: false });
+    let n = wire::u32_at(&head, 85) as usize;
+    if !fill_front(input, lent, n)? {
+        return Ok(false);
     }
-    Ok(Turn {
-        link: call_and_print(out, link, &head, front(lent, n))?,
-        more: true,
-    })
+    let mut space = [0xa5u8; 81920];
+    let buffer: &mut [u8] = &mut space;
+    let room = (wire::u32_at(&head, 53) as usize).min(buffer.len());
+    let answer = call(link, &mut buffer[..room], &head, front(lent, n));
+    print_answer(out, "sent", answer, front(buffer, room))?;
+    Ok(true)
 }

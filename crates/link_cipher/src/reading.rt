@@ -7,16 +7,18 @@ use link_state::{Link, Settings};
 use wire::{u8_at, u32_at};
 
 // Whether a server refuses this encryption.
+#[tactic(auto, unfolding(crate::specs::Chosen::server_refuses))]
 fn server_refuses(set: Settings, encryption: u8) -> bool
     ensures { result ≡ server_refuses set encryption }
 {
     if !set.cipher {
         return encryption == 1;
     }
-    if set.only { encryption == 0 } else { false }
+    set.only && encryption == 0
 }
 
 // Whether a client does.
+#[tactic(auto, unfolding(crate::specs::Chosen::client_refuses))]
 fn client_refuses(set: Settings, encryption: u8) -> bool
     ensures { result ≡ client_refuses set encryption }
 {
@@ -31,6 +33,7 @@ fn client_refuses(set: Settings, encryption: u8) -> bool
 }
 
 // Whether the settings refuse it.
+#[tactic(auto, unfolding(crate::specs::Chosen::encryption_refused))]
 fn encryption_refused(set: Settings, encryption: u8) -> bool
     ensures { result ≡ encryption_refused set encryption }
 {
@@ -42,6 +45,7 @@ fn encryption_refused(set: Settings, encryption: u8) -> bool
 }
 
 // Whether the cipher is chosen, by the encryption in the other side's Nonce.
+#[tactic(auto, unfolding(crate::specs::Chosen::chosen_of))]
 pub fn chosen(set: Settings, encryption: u8) -> bool
     ensures { result ≡ chosen_of set encryption }
 {
@@ -56,17 +60,11 @@ pub fn chosen(set: Settings, encryption: u8) -> bool
 }
 
 // Whether the encryption that a Nonce's body names is refused, or its KeyID where the cipher is chosen.
+#[tactic(auto, unfolding(crate::specs::Chosen::cipher_refused))]
 pub fn refused(link: Link, b: &[u8]) -> bool
     ensures { result ≡ cipher_refused link b.now }
 {
     let set = link.set;
     let encryption = u8_at(b, 4);
-    if encryption_refused(set, encryption) {
-        return true;
-    }
-    if chosen(set, encryption) {
-        u32_at(b, 0) != link.keyid
-    } else {
-        false
-    }
+    encryption_refused(set, encryption) || (chosen(set, encryption) && u32_at(b, 0) != link.keyid)
 }

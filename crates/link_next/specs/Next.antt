@@ -8,6 +8,8 @@ use Rattle.link_state.specs.Turn.{stage_after}
 use Rattle.link_cipher.specs.Chosen.{encryption_at, chosen_of}
 use Rattle.opening.specs.Nonce.{version_at}
 use Rattle.handshake_in.specs.Handshake.{flag_of}
+use Rattle.refusal.specs.declared.Refusal.{Refusal}
+use Rattle.refusal.specs.Numbers.{number}
 use Rattle.link_next.specs.KeepAlive.{awaits_after, owes_after, owed_after}
 
 -- a link, closed
@@ -32,20 +34,20 @@ closed_of l =
 
 -- "On receive, 1 to 10, 21, and 17 for Ping and Pong close the link; nothing else does" (receive gives 17 for no other);
 -- 24, 25 and 26 close it too (document 02, A11 and A7)
-unfoldable pub closes_of : ℕ → Bool
-closes_of k =
+unfoldable pub closes_of : Refusal → Bool
+closes_of r =
     first (
-    ((k == 17), true) ∷
-    ((k == 21), true) ∷
-    ((k == 24), true) ∷
-    ((k == 25), true) ∷
-    ((k == 26), true) ∷
+    ((number r == 17), true) ∷
+    ((number r == 21), true) ∷
+    ((number r == 24), true) ∷
+    ((number r == 25), true) ∷
+    ((number r == 26), true) ∷
     []
-    ) (nat_le 1 k && nat_le k 10)
+    ) (nat_le 1 (number r) && nat_le (number r) 10)
 
 -- the link after a refusal
-unfoldable pub refused_of : Link → ℕ → Link
-refused_of l k = pick (closes_of k) (closed_of l) l
+unfoldable pub refused_of : Link → Refusal → Link
+refused_of l r = pick (closes_of r) (closed_of l) l
 
 -- "the server sets it if the client did and its own setting allows. If the server set it, both ends use CRC-32C"
 unfoldable pub agreed_after : Link → ℕ → List ℕ → Bool

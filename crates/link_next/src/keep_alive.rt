@@ -1,39 +1,45 @@
 // The other side's Ping and Pong: which are refused, and what the link keeps of them.
 ghost use Rattle.std.specs.Prelude.{◌≡◌};
-ghost use Rattle.link_next.specs.KeepAlive.{ping_refusal, pong_refusal, awaits_after, owes_after, owed_after};
+ghost use Rattle.link_next.specs.KeepAlive.{check_ping, check_pong, awaits_after, owes_after, owed_after};
 
 use link_state::Link;
 use packet::{PING, PONG};
-use refusal::{BODY_SIZE, PING_OUT_OF_TURN};
+use refusal::Refusal;
 use wire::u64_at;
 
-// A refusal's number, or 0.
-pub fn ping_refusal(link: Link, b: &[u8]) -> u8
-    ensures { result ≡ ping_refusal link b.now }
+// Refuses a Ping with this body, or lets it pass.
+#[tactic(auto, unfolding(crate::specs::KeepAlive::check_ping))]
+pub fn check_ping(link: Link, b: &[u8]) -> Result<(), Refusal>
+    ensures { result ≡ check_ping link b.now }
 {
     if b.len() != 8 {
-        return BODY_SIZE;
+        return Err(Refusal::BodySize);
     }
-    if link.owes { PING_OUT_OF_TURN } else { 0 }
+    if link.owes {
+        return Err(Refusal::PingOutOfTurn);
+    }
+    Ok(())
 }
 
-// A refusal's number, or 0.
-pub fn pong_refusal(link: Link, b: &[u8]) -> u8
-    ensures { result ≡ pong_refusal link b.now }
+// Refuses a Pong with this body, or lets it pass.
+#[tactic(auto, unfolding(crate::specs::KeepAlive::check_pong))]
+pub fn check_pong(link: Link, b: &[u8]) -> Result<(), Refusal>
+    ensures { result ≡ check_pong link b.now }
 {
     if b.len() != 8 {
-        return BODY_SIZE;
+        return Err(Refusal::BodySize);
     }
     if !link.awaits {
-        return PING_OUT_OF_TURN;
+        return Err(Refusal::PingOutOfTurn);
     }
     if u64_at(b, 0) != link.awaited {
-        return PING_OUT_OF_TURN;
+        return Err(Refusal::PingOutOfTurn);
     }
-    0
+    Ok(())
 }
 
 // Whether a Ping of ours is unanswered, after a packet.
+#[tactic(auto, unfolding(crate::specs::KeepAlive::awaits_after))]
 pub(crate) fn awaits_after(link: Link, kind: u32) -> bool
     ensures { result ≡ awaits_after link kind }
 {
@@ -41,6 +47,7 @@ pub(crate) fn awaits_after(link: Link, kind: u32) -> bool
 }
 
 // Whether we owe a Pong, after a packet.
+#[tactic(auto, unfolding(crate::specs::KeepAlive::owes_after))]
 pub(crate) fn owes_after(link: Link, kind: u32) -> bool
     ensures { result ≡ owes_after link kind }
 {
@@ -48,6 +55,7 @@ pub(crate) fn owes_after(link: Link, kind: u32) -> bool
 }
 
 // The ID of the Pong that we owe, after a packet.
+#[tactic(auto, unfolding(crate::specs::KeepAlive::owed_after))]
 pub(crate) fn owed_after(link: Link, kind: u32, b: &[u8]) -> u64
     ensures { result ≡ owed_after link kind b.now }
 {

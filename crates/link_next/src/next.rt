@@ -7,62 +7,66 @@ use handshake_in::flagged;
 use link_cipher::chosen;
 use link_state::{Link, Moment, stage_after};
 use packet::{HANDSHAKE, NONCE};
-use refusal::{
-    BEYOND_OFFER, BODY_SIZE, FOURTH_WORD, LENGTH_UNDER_16, PADDING_NOT_ZERO, PING_OUT_OF_TURN,
-    VERSION_TOO_OLD,
-};
+use refusal::Refusal;
 use wire::u8_at;
 
-fn close(mut link: Link) -> Link
+#[tactic(auto, unfolding(crate::specs::Next::closed_of))]
+fn close(link: Link) -> Link
     ensures { result ≡ closed_of link }
 {
-    link.closed = true;
-    link
+    Link {
+        closed: true,
+        ..link
+    }
 }
 
 // Whether a refusal closes the link on receive.
-fn closes(refusal: u8) -> bool
+#[tactic(auto, unfolding(crate::specs::Next::closes_of, refusal::specs::Numbers::number))]
+fn closes(refusal: Refusal) -> bool
     ensures { result ≡ closes_of refusal }
 {
-    if refusal == BODY_SIZE {
-        return true;
+    match refusal {
+        Refusal::LengthUnder16
+        | Refusal::LengthOverLimit
+        | Refusal::LengthInOpening
+        | Refusal::PacketNumber
+        | Refusal::TypeNotAllowed
+        | Refusal::Checksum
+        | Refusal::OpeningShort
+        | Refusal::Clocks
+        | Refusal::Encryption
+        | Refusal::BeyondOffer
+        | Refusal::BodySize
+        | Refusal::PingOutOfTurn
+        | Refusal::VersionTooOld
+        | Refusal::PaddingNotZero
+        | Refusal::FourthWord => true,
+        _ => false,
     }
-    if refusal == PING_OUT_OF_TURN {
-        return true;
-    }
-    if refusal == VERSION_TOO_OLD {
-        return true;
-    }
-    if refusal == PADDING_NOT_ZERO {
-        return true;
-    }
-    if refusal == FOURTH_WORD {
-        return true;
-    }
-    if refusal < LENGTH_UNDER_16 {
-        return false;
-    }
-    refusal <= BEYOND_OFFER
 }
 
 // The link after a refusal.
-pub fn refused(link: Link, refusal: u8) -> Link
+#[tactic(auto, unfolding(crate::specs::Next::refused_of))]
+pub fn refused(link: Link, refusal: Refusal) -> Link
     ensures { result ≡ refused_of link refusal }
 {
     if closes(refusal) { close(link) } else { link }
 }
 
 // Whether CRC-32C is agreed, after a packet.
+#[tactic(auto, unfolding(crate::specs::Next::agreed_after))]
 fn agreed_after(link: Link, kind: u32, b: &[u8]) -> bool
     ensures { result ≡ agreed_after link kind b.now }
 {
-    if kind != HANDSHAKE {
-        return link.crc32c;
+    if kind == HANDSHAKE {
+        link.set.allows && flagged(b)
+    } else {
+        link.crc32c
     }
-    if link.set.allows { flagged(b) } else { false }
 }
 
 // The version of the other side's Nonce, after a packet.
+#[tactic(auto, unfolding(crate::specs::Next::version_after))]
 fn version_after(link: Link, kind: u32, b: &[u8]) -> u8
     ensures { result ≡ version_after link kind b.now }
 {
@@ -74,6 +78,7 @@ fn version_after(link: Link, kind: u32, b: &[u8]) -> u8
 }
 
 // Whether the cipher is chosen, after a packet.
+#[tactic(auto, unfolding(crate::specs::Next::ciphered_after))]
 fn ciphered_after(link: Link, kind: u32, b: &[u8]) -> bool
     ensures { result ≡ ciphered_after link kind b.now }
 {
@@ -85,24 +90,19 @@ fn ciphered_after(link: Link, kind: u32, b: &[u8]) -> bool
 }
 
 // The link after a packet of this type, with this body.
+#[tactic(auto, unfolding(crate::specs::Next::after_of))]
 pub fn after(link: Link, kind: u32, b: &[u8], moment: Moment) -> Link
     ensures { result ≡ after_of link kind b.now moment }
 {
-    let set = link.set;
     Link {
-        set,
-        closed: link.closed,
         crc32c: agreed_after(link, kind, b),
         version: version_after(link, kind, b),
         stage: stage_after(link.stage),
-        phase: link.phase,
         awaits: awaits_after(link, kind),
         owes: owes_after(link, kind),
         ciphered: ciphered_after(link, kind, b),
-        keyid: link.keyid,
-        sends: link.sends,
-        gets: std::num::wrapping_add_u32(link.gets, 1),
-        awaited: link.awaited,
+        gets: link.gets.wrapping_add(1),
         owed: owed_after(link, kind, b),
+        ..link
     }
 }

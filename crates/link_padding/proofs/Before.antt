@@ -1,27 +1,27 @@
 -- Links that are not padded read, and write, as before. Assumes nothing.
 use mathlib.Core.Path.{◌≡◌, refl, ap}
 use mathlib.Core.Bool.{Bool, true, false, ◌&&◌}
-use mathlib.Core.List.{List, [], ◌∷◌, append-nil}
+use mathlib.Core.List.{List, append-nil}
 use Prim.Native.Nat.{ℕ, ◌+◌}
 use native.Mathlib.Nat.{add-zero, zero-add}
 use lib.ListN.{length}
 use lib.Dec.{leb}
-use Rattle.wire.specs.Choice.{first}
 use Rattle.wire.specs.Bytes.{le, bytes}
 use Rattle.link_state.specs.declared.Link.{Link}
 use Rattle.link_state.specs.declared.Moment.{Moment}
 use Rattle.packet_padding.specs.Padding.{padded_of, pads_of, tail_of, words_allowed}
 use Rattle.packet.specs.Sum.{sum_of}
-use Rattle.packet.specs.Allowed.{refuses}
 use Rattle.packet.specs.declared.Arrival.{Arrival}
-use Rattle.packet.specs.declared.Arrival.TheVariants.{Refused}
 use Rattle.packet_head.specs.Words.{words_of}
 use Rattle.packet_in.specs.Frame.{length_at, kind_at, whole_of, rows_of, frame_of}
 use Rattle.packet_out.specs.Size.{size_of}
 use Rattle.packet_out.specs.Packet.{front_of, packet_of}
-use Rattle.link.specs.Look.{turn_refusal, look_of}
+use Rattle.link.specs.Look.{check_turn, look_of}
 use Rattle.link.specs.Receive.{receive_by, receive_of}
 use Rattle.link_padding.specs.Before.{whole_before, frame_before, receive_before, size_before, packet_before}
+use Rattle.std.specs.Prelude.{Result}
+use Rattle.refusal.specs.declared.Refusal.{Refusal}
+use Rattle.std.specs.Result.{result_and}
 
 module _ (l : Link) (plain : padded_of l ≡ false) where
   off : (b : Bool) → (b && padded_of l) ≡ false
@@ -56,8 +56,7 @@ module _ (l : Link) (plain : padded_of l ≡ false) where
   pub as_before : (s : List ℕ) (m : Moment) → receive_of l s m ≡ receive_before l s m
   unfolding receive_of receive_before look_of
   as_before s m =
-      ap (λ (a : Arrival). receive_by l s m (first ((refuses (turn_refusal l), Refused (turn_refusal l)) ∷ []) a))
-      (frame-before s)
+      ap (λ (a : Result Arrival Refusal). receive_by l s m (result_and (check_turn l) a)) (frame-before s)
 
   -- and what a packet is that is sent, and its size
   pub size-before : (len : ℕ) → size_of l len ≡ size_before len

@@ -15,7 +15,6 @@ use Rattle.link_state.specs.Turn.{stage_after}
 use Rattle.packet_padding.specs.Padding.{padded_of, pads_of, phase_after}
 use Rattle.packet_padding.proofs.PaddingLaws.{tail-whole}
 use Rattle.packet_out.specs.Size.{size_of}
-use Rattle.packet_out.specs.declared.Sent.TheVariants.{Written}
 use Rattle.send_rules.specs.Sent.{sent_of}
 use Rattle.send_rules.specs.declared.Step.{Step}
 use Rattle.nonce_out.specs.declared.Drawn.{Drawn}
@@ -25,18 +24,19 @@ use Rattle.link_calls.specs.Calls.{sends, flushes, type_of}
 use Rattle.link_calls.proofs.Ways.{send-ways, flush-ways}
 use Rattle.link_padding.specs.Tally.{Tally, wrote, called}
 use Rattle.link_padding.proofs.Stages.{from, counts, shows}
+use Rattle.std.specs.Prelude.{Ok}
 
 -- what a flush that is accepted answers
-pub flush-size : (l : Link) (room n : ℕ) → (flush_step l room).answer ≡ Written n → n ≡ words_due l * 4
+pub flush-size : (l : Link) (room n : ℕ) → (flush_step l room).answer ≡ Ok n → n ≡ words_due l * 4
 flush-size l room n =
-    flush-ways (λ (x : Step). x.answer ≡ Written n → n ≡ words_due l * 4) l room
+    flush-ways (λ (x : Step). x.answer ≡ Ok n → n ≡ words_due l * 4) l room
     (λ k h. let z : ◌≡◌ {A = ℕ} 0 1 = cc in absurd (omega arith))
     (λ fits h. let q : words_due l * 4 ≡ n = cc in sym q)
 
 -- for which there is room
-pub flush-fits : (l : Link) (room n : ℕ) → (flush_step l room).answer ≡ Written n → words_due l * 4 ≤ room
+pub flush-fits : (l : Link) (room n : ℕ) → (flush_step l room).answer ≡ Ok n → words_due l * 4 ≤ room
 flush-fits l room n =
-    flush-ways (λ (x : Step). x.answer ≡ Written n → words_due l * 4 ≤ room) l room
+    flush-ways (λ (x : Step). x.answer ≡ Ok n → words_due l * 4 ≤ room) l room
     (λ k h. let z : ◌≡◌ {A = ℕ} 0 1 = cc in absurd (omega arith)) (λ fits h. fits)
 
 -- ---- what holds of a padded link, before and after a call
@@ -61,7 +61,7 @@ module _ (set : Settings) (t : Tally) (is-padded : padded_of t.link ≡ true) (i
   by_bytes : (hand : Bool) (l2 : Link) (n : ℕ) → l2.set ≡ set → pick hand true t.begun ≡ begun_of l2
       → pick hand true t.begun ≡ pads_of t.link
       → l2.phase ≡ phase_after t.link n → (pads_of t.link ≡ true → n % 4 ≡ 0)
-      → Holds set (wrote t hand l2 (Written n))
+      → Holds set (wrote t hand l2 (Ok n))
   unfolding phase_after
   by_bytes hand l2 n es eb ep ephase whole = go (pick hand true t.begun) (pads_of t.link) ep refl refl
     where
@@ -72,7 +72,7 @@ module _ (set : Settings) (t : Tally) (is-padded : padded_of t.link ≡ true) (i
       none true b e = let z : ◌≡◌ {A = ℕ} 0 1 = cc in absurd (omega arith)
 
       go : (a p : Bool) → a ≡ p → pick hand true t.begun ≡ a → pads_of t.link ≡ p
-          → Holds set (wrote t hand l2 (Written n))
+          → Holds set (wrote t hand l2 (Ok n))
       go true true q ea ep =
           let w = whole ep in
           let f : l2.phase ≡ (t.link.phase + n / 4) % 4 = ephase ∙ rw ep refl in
@@ -150,11 +150,11 @@ module _ (set : Settings) (t : Tally) (is-padded : padded_of t.link ≡ true) (i
       go true h = omega (arith, leb-true 4 t.link.stage h)
       go false h = omega (arith, leb-true 3 t.link.stage h)
 
-  by-words : (n : ℕ) → n ≡ words_due t.link * 4 → Holds set (wrote t false (flushed_of t.link n) (Written n))
+  by-words : (n : ℕ) → n ≡ words_due t.link * 4 → Holds set (wrote t false (flushed_of t.link n) (Ok n))
   unfolding phase_after
   by-words n en = go t.begun refl
     where
-      go : (b : Bool) → t.begun ≡ b → Holds set (wrote t false (flushed_of t.link n) (Written n))
+      go : (b : Bool) → t.begun ≡ b → Holds set (wrote t false (flushed_of t.link n) (Ok n))
       go true e =
           let d : words_due t.link ≡ (4 - t.link.phase % 4) % 4 = due-is true e in
           let q : pads_of t.link ≡ true = pads ∙ le-leb 2 t.link.stage (out e) in
@@ -195,7 +195,7 @@ module _ (set : Settings) (t : Tally) (is-padded : padded_of t.link ≡ true) (i
       (λ fits. by-words (words_due t.link * 4) refl)
 
   -- after an accepted flush all is whole blocks
-  pub level-at : (room n : ℕ) → (flush_step t.link room).answer ≡ Written n → (called t (flushes room)).bytes % 16 ≡ 0
+  pub level-at : (room n : ℕ) → (flush_step t.link room).answer ≡ Ok n → (called t (flushes room)).bytes % 16 ≡ 0
   unfolding called
   level-at room n e = rw e (go t.begun refl)
     where

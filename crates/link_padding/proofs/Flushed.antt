@@ -13,13 +13,13 @@ use Rattle.wire.specs.Choice.{pick}
 use Rattle.link_state.specs.declared.Link.{Link}
 use Rattle.packet.specs.Sum.{castagnoli_of}
 use Rattle.packet_padding.specs.Padding.{padded_of, pads_of, words_allowed, fours_of}
-use Rattle.packet_out.specs.declared.Sent.{Sent}
-use Rattle.packet_out.specs.declared.Sent.TheVariants.{Written, Refused}
-use Rattle.link.specs.Look.{turn_refusal}
+use Rattle.link.specs.Look.{check_turn}
 use Rattle.flush.specs.Flush.{begun_of, words_due, flush_answer, flushed_of, flush_by, flush_in, flush_step, flush_buffer}
 use Rattle.pair.specs.Awaits.{Awaits}
 use Rattle.pair.proofs.Words.{length-fours}
 use Rattle.link_padding.proofs.Counts.{flush-size, flush-fits}
+use Rattle.std.specs.Prelude.{Err, Result, Ok}
+use Rattle.refusal.specs.declared.Refusal.{Refusal}
 
 -- a link whose phase alone changed is awaited as before, and awaits as before
 awaited-still : (k l : Link) (n : ℕ) → Awaits k l → Awaits k (flushed_of l n)
@@ -28,7 +28,7 @@ awaited-still k l n a =
     record { number = a.number; checksum = a.checksum; stage = a.stage; profile = a.profile; turn = a.turn }
 
 awaits-still : (k l : Link) (n : ℕ) → Awaits l k → Awaits (flushed_of l n) k
-unfolding flushed_of castagnoli_of pads_of padded_of turn_refusal
+unfolding flushed_of castagnoli_of pads_of padded_of check_turn
 awaits-still k l n a =
     record { number = a.number; checksum = a.checksum; stage = a.stage; profile = a.profile; turn = a.turn }
 
@@ -43,18 +43,18 @@ due-allowed k l over same = rw (same, le-leb 4 k.stage over) (go (padded_of l) (
     go false b = omega arith
 
 -- a flush that l accepted, into the buffer b
-module _ (l : Link) (b : List ℕ) (n : ℕ) (flushed : (flush_step l (length b)).answer ≡ Written n) where
-  answer-is : flush_answer l (length b) ≡ Written n
+module _ (l : Link) (b : List ℕ) (n : ℕ) (flushed : (flush_step l (length b)).answer ≡ Ok n) where
+  answer-is : flush_answer l (length b) ≡ Ok n
   unfolding flush_step
   answer-is = go (flush_answer l (length b)) flushed
     where
-      go : (a : Sent) → (flush_by l a).answer ≡ Written n → a ≡ Written n
-      go (Written k) h = h
-      go (Refused k) h = h
+      go : (a : Result ℕ Refusal) → (flush_by l a).answer ≡ Ok n → a ≡ Ok n
+      go (Ok k) h = h
+      go (Err k) h = h
 
   link-is : (flush_step l (length b)).link ≡ flushed_of l n
   unfolding flush_step
-  link-is = ap (λ (a : Sent). (flush_by l a).link) answer-is
+  link-is = ap (λ (a : Result ℕ Refusal). (flush_by l a).link) answer-is
 
   -- what stands at the buffer's front is the words
   pub words_are : take n (flush_buffer l b) ≡ fours_of (words_due l)
@@ -63,7 +63,7 @@ module _ (l : Link) (b : List ℕ) (n : ℕ) (flushed : (flush_step l (length b)
       let w : List ℕ = fours_of (words_due l) in
       let f : length w ≡ words_due l * 4 = length-fours (words_due l) in
       let z : n ≡ words_due l * 4 = flush-size l (length b) n flushed in
-      ap (λ (a : Sent). take n (flush_in l b a)) answer-is
+      ap (λ (a : Result ℕ Refusal). take n (flush_in l b a)) answer-is
       ∙ (ap (take n) (front-stored b w (omega (arith, flush-fits l (length b) n flushed)))
       ∙ take_at w (drop (length w) b) n (omega arith))
 

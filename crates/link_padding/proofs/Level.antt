@@ -17,9 +17,7 @@ use Rattle.link_state.specs.Turn.{may_send, stage_after}
 use Rattle.packet.specs.Allowed.{allowed_of}
 use Rattle.packet_padding.specs.Padding.{padded_of, pads_of, phase_after}
 use Rattle.packet_out.specs.Size.{size_of}
-use Rattle.packet_out.specs.declared.Sent.{Sent}
-use Rattle.packet_out.specs.declared.Sent.TheVariants.{Written, Refused}
-use Rattle.link.specs.Look.{turn_refusal}
+use Rattle.link.specs.Look.{check_turn}
 use Rattle.link_next.specs.Next.{closed_of, ciphered_after, after_of}
 use Rattle.send_rules.specs.Sent.{sent_of}
 use Rattle.send_rules.specs.declared.Step.{Step}
@@ -32,10 +30,13 @@ use Rattle.link_calls.proofs.Ways.{receive-ways, send-ways, flush-ways}
 use Rattle.link_padding.specs.Tally.{Tally, wrote, called, after, start, Quiet}
 use Rattle.link_padding.proofs.Stages.{from, kept, counts, shows}
 use Rattle.link_padding.proofs.Counts.{flush-size, Holds, by-send, by-flush, due-is, level-at, near-at}
+use Rattle.std.specs.Prelude.{Err, Result, Ok, ⊤}
+use Rattle.refusal.specs.declared.Refusal.{Refusal}
+use Rattle.refusal.specs.declared.Refusal.TheVariants.{LinkClosed, NotOurTurn}
 
-wrote-link : (t : Tally) (hand : Bool) (l : Link) (a : Sent) → (wrote t hand l a).link ≡ l
-wrote-link t hand l (Written n) = refl
-wrote-link t hand l (Refused k) = refl
+wrote-link : (t : Tally) (hand : Bool) (l : Link) (a : Result ℕ Refusal) → (wrote t hand l a).link ≡ l
+wrote-link t hand l (Ok n) = refl
+wrote-link t hand l (Err k) = refl
 
 -- ---- what holds after any calls: of every link, and more of one that is padded
 
@@ -67,13 +68,13 @@ module _ (set : Settings) (t : Tally) (i : Always set t) where
   abbrev l : Link
   l = t.link
 
-  turn-of : turn_refusal l ≡ 0 → may_send (not l.set.server) l.stage ≡ true
-  unfolding turn_refusal
+  turn-of : check_turn l ≡ Ok tt → may_send (not l.set.server) l.stage ≡ true
+  unfolding check_turn
   turn-of e = go l.closed (may_send (not l.set.server) l.stage) e
     where
-      go : (c b : Bool) → ◌≡◌ {A = ℕ} (pick c 20 (pick (not b) 22 0)) 0 → b ≡ true
-      go true b h = absurd (omega (arith, h))
-      go false false h = absurd (omega (arith, h))
+      go : (c b : Bool) → ◌≡◌ {A = Result ⊤ Refusal} (pick c (Err LinkClosed) (pick (not b) (Err NotOurTurn) (Ok tt))) (Ok tt) → b ≡ true
+      go true b h = cc
+      go false false h = cc
       go false true h = refl
 
   -- a Nonce comes before our Handshake went out
@@ -92,7 +93,7 @@ module _ (set : Settings) (t : Tally) (i : Always set t) where
       go false p false e = let z : ◌≡◌ {A = ℕ} 0 1 = cc in absurd (omega arith)
 
   -- the link that a packet leaves
-  by-packet : (kind : ℕ) (b : List ℕ) (m : Moment) → turn_refusal l ≡ 0 → allowed_of l kind ≡ true
+  by-packet : (kind : ℕ) (b : List ℕ) (m : Moment) → check_turn l ≡ Ok tt → allowed_of l kind ≡ true
       → Always set (record { link = after_of l kind b m; begun = t.begun; bytes = t.bytes })
   unfolding after_of begun_of padded_of ciphered_after
   by-packet kind b m e may =
@@ -145,7 +146,7 @@ module _ (set : Settings) (t : Tally) (i : Always set t) where
 
   -- bytes of ours on a link that is not padded: nothing counts
   by-plain : (hand : Bool) (l2 : Link) (n : ℕ) → padded_of l ≡ false → padded_of l2 ≡ padded_of l → l2.set ≡ set
-      → pick hand true t.begun ≡ begun_of l2 → l2.phase ≡ phase_after l n → Always set (wrote t hand l2 (Written n))
+      → pick hand true t.begun ≡ begun_of l2 → l2.phase ≡ phase_after l n → Always set (wrote t hand l2 (Ok n))
   unfolding phase_after pads_of
   by-plain hand l2 n plain same es eb ephase =
       record {
@@ -325,12 +326,12 @@ module _ (set : Settings) (keyid : ℕ) (cs : List Call) where
     counted = ((holds padded).phase, (holds padded).words)
 
     -- LEVEL: a flush that is accepted leaves a multiple of 16 bytes since the first byte of our Handshake
-    pub level : (room n : ℕ) → (flush_step made.link room).answer ≡ Written n
+    pub level : (room n : ℕ) → (flush_step made.link room).answer ≡ Ok n
         → (called made (flushes room)).bytes % 16 ≡ 0
     level room n e = level-at set made padded (holds padded) room n e
 
     -- NONE BEFORE: before our Handshake a flush writes nothing
-    pub none_before : made.begun ≡ false → (room n : ℕ) → (flush_step made.link room).answer ≡ Written n → n ≡ 0
+    pub none_before : made.begun ≡ false → (room n : ℕ) → (flush_step made.link room).answer ≡ Ok n → n ≡ 0
     none_before early room n e =
         omega (arith, flush-size made.link room n e, due-is set made padded (holds padded) false early)
 
@@ -342,7 +343,7 @@ module _ (set : Settings) (keyid : ℕ) (cs : List Call) where
         omega (arith, (holds padded).words, n)
 
 -- NONE UNPADDED: a link that is not padded writes no words
-pub none-unpadded : (l : Link) → padded_of l ≡ false → (room n : ℕ) → (flush_step l room).answer ≡ Written n → n ≡ 0
+pub none-unpadded : (l : Link) → padded_of l ≡ false → (room n : ℕ) → (flush_step l room).answer ≡ Ok n → n ≡ 0
 unfolding words_due
 none-unpadded l plain room n e = omega (arith, flush-size l room n e, zero-due)
   where

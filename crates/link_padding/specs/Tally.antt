@@ -1,16 +1,15 @@
 -- The bytes that a link wrote "since the first byte of our Handshake" (document 02, A7), counted along any calls from
 -- their answers alone. Assumes nothing.
-use Rattle.std.specs.Prelude.{ℕ, ◌+◌, Bool, true, false, List, [], ◌∷◌, eqb}
+use Rattle.std.specs.Prelude.{ℕ, ◌+◌, Bool, true, false, List, [], ◌∷◌, eqb, Err, Result, Ok}
 use Rattle.wire.specs.Choice.{pick}
 use Rattle.link_state.specs.declared.Link.{Link}
 use Rattle.link_state.specs.declared.Settings.{Settings}
 use Rattle.link_state.specs.SetUp.{fresh_of}
-use Rattle.packet_out.specs.declared.Sent.{Sent}
-use Rattle.packet_out.specs.declared.Sent.TheVariants.{Written, Refused}
 use Rattle.link.specs.Receive.{receive_of}
 use Rattle.send.specs.Send.{send_of}
 use Rattle.flush.specs.Flush.{flush_step}
 use Rattle.link_calls.specs.Calls.{Call, receives, sends, flushes, type_of}
+use Rattle.refusal.specs.declared.Refusal.{Refusal}
 
 -- a link, whether our Handshake went out on it, and the bytes that we wrote since its first byte
 pub record Tally : Type 0 where
@@ -20,14 +19,14 @@ pub record Tally : Type 0 where
 
 -- after a call that answered so, and left this link: what it wrote is our Handshake, or it counts if that went out
 -- before
-abbrev pub wrote : Tally → Bool → Link → Sent → Tally
-wrote t hand l (Written n) =
+abbrev pub wrote : Tally → Bool → Link → Result ℕ Refusal → Tally
+wrote t hand l (Ok n) =
     record {
       link = l;
       begun = pick hand true t.begun;
       bytes = pick (pick hand true t.begun) (t.bytes + n) t.bytes;
     }
-wrote t hand l (Refused k) = record { link = l; begun = t.begun; bytes = t.bytes }
+wrote t hand l (Err k) = record { link = l; begun = t.begun; bytes = t.bytes }
 
 -- after a call
 unfoldable pub called : Tally → Call → Tally

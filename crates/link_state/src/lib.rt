@@ -18,6 +18,7 @@ pub const OUR_VERSION: u8 = 2;
 #[repr(C)]
 #[derive(Clone, Copy)]
 pub struct Settings {
+    // Kept: the C interface: the header's `bool server`, and the fields below it, and no enums of sides or of ciphers
     pub server: bool,
     // whether CRC-32C is offered by a client, or granted by a server
     pub allows: bool,
@@ -50,10 +51,12 @@ pub struct Link {
     // the version in the other side's Nonce
     pub version: u8,
     // how many packets of the opening went over, in either direction: 4 after it
+    // Kept: the C interface: a count that C is told, and no enum of stages
     pub stage: u8,
     // on a padded link, the 32-bit words since the first byte of our Handshake, modulo 4
     pub phase: u8,
     // whether a Ping of ours is unanswered
+    // Kept: the C interface, which names both flags and both IDs below: no `Option<u64>` is laid out as those are
     pub awaits: bool,
     // whether we owe a Pong
     pub owes: bool,
@@ -67,11 +70,4 @@ pub struct Link {
     // the ID of our Ping that is unanswered, and of the Ping that our Pong answers
     pub awaited: u64,
     pub owed: u64,
-}
-
-// A link, or a refusal's number.
-#[derive(Clone, Copy)]
-pub enum SetUp {
-    Ready(Link),
-    Refused(u8),
 }

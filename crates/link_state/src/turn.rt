@@ -3,20 +3,15 @@ ghost use Rattle.std.specs.Prelude.{◌≡◌};
 ghost use Rattle.link_state.specs.Turn.{may_send, stage_after};
 
 // Whether the server, or the client, may send the next packet at this stage.
+#[tactic(auto, unfolding(crate::specs::Turn::may_send))]
 pub fn may_send(server: bool, stage: u8) -> bool
     ensures { result ≡ may_send server stage }
 {
-    if 4 <= stage {
-        return true;
-    }
-    if server {
-        stage % 2 == 1
-    } else {
-        stage % 2 == 0
-    }
+    4 <= stage || stage % 2 == u8::from(server)
 }
 
 // The stage after one more packet.
+#[tactic(auto, unfolding(crate::specs::Turn::stage_after))]
 pub fn stage_after(stage: u8) -> u8
     ensures { result ≡ stage_after stage }
 {

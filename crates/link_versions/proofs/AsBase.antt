@@ -2,7 +2,7 @@
 -- a Nonce is judged as before; so is each, and set-up without a key, with lowest version 0. Assumes nothing.
 use borrow.Author.Tests.{le-ltb}
 use native.Mathlib.Omega.{arith}
-use mathlib.Core.Path.{◌≡◌, refl}
+use mathlib.Core.Path.{◌≡◌, refl, subst}
 use mathlib.Core.Bool.{false, not, ◌&&◌}
 use mathlib.Core.List.{List}
 use Prim.Native.Nat.{ℕ, ◌-◌, ◌*◌, ◌≤◌}
@@ -13,126 +13,136 @@ use Rattle.wire.proofs.ChoiceLaws.{by_row}
 use Rattle.link_state.specs.declared.Link.{Link}
 use Rattle.link_state.specs.declared.Settings.{Settings}
 use Rattle.link_state.specs.declared.Moment.{Moment}
-use Rattle.link_state.specs.declared.SetUp.TheVariants.{Ready}
-use mathlib.Core.Option.{none}
 use Rattle.link_state.specs.SetUp.{fresh_of, key_refused, key_id_of, set_up_of}
 use Rattle.link_state.specs.Turn.{may_send}
 use Rattle.link_state.proofs.SetUpLaws.{set-up-takes}
 use Rattle.packet.specs.Sum.{sum_of}
-use Rattle.packet.specs.Allowed.{allowed_of, refuses}
+use Rattle.packet.specs.Allowed.{allowed_of}
 use Rattle.packet_padding.specs.Padding.{tail_of}
 use Rattle.packet.specs.declared.Arrival.{Arrival}
-use Rattle.packet.specs.declared.Arrival.TheVariants.{Incomplete, Packet, Refused}
-use Rattle.packet_head.specs.Head.{length_refusal, head_refusal}
+use Rattle.packet.specs.declared.Arrival.TheVariants.{Incomplete, Packet}
+use Rattle.packet_head.specs.Head.{check_length, check_head}
 use Rattle.packet_head.specs.Words.{words_of}
 use Rattle.packet_in.specs.Frame.{length_at, number_at, kind_at, whole_size, whole_of, rows_of, frame_of}
 use Rattle.opening.specs.Clock.{near_of}
 use Rattle.link_cipher.specs.Chosen.{cipher_refused}
-use Rattle.opening.specs.Nonce.{least_of, version_at, beyond_of, nonce_refusal}
-use Rattle.handshake_in.specs.Handshake.{flag_of, handshake_refusal}
-use Rattle.link_next.specs.KeepAlive.{id_at, ping_refusal, pong_refusal}
-use Rattle.link.specs.Look.{turn_refusal, look_of}
+use Rattle.opening.specs.Nonce.{least_of, version_at, beyond_of, check_nonce}
+use Rattle.handshake_in.specs.Handshake.{flag_of, check_handshake}
+use Rattle.link_next.specs.KeepAlive.{id_at, check_ping, check_pong}
+use Rattle.link.specs.Look.{check_turn, look_of}
 use Rattle.link_next.specs.Next.{closes_of, refused_of}
 use Rattle.link.specs.Receive.{refuse}
 use Rattle.link_versions.specs.Before.{nonce_before, body_before, closes_before, refuse_before}
+use Rattle.refusal.specs.declared.Refusal.TheVariants.{LengthUnder16, LengthOverLimit, LengthInOpening, PacketNumber, TypeNotAllowed, Checksum, OpeningShort, Clocks, Encryption, BeyondOffer, BodySize, LinkClosed, PingOutOfTurn, NotOurTurn, PaddingNotZero, FourthWord}
+use Rattle.refusal.specs.Numbers.{number}
+use Rattle.link_calls.proofs.Ways.{by_check}
+use Rattle.std.specs.Prelude.{Err, Ok, None, Result, ⊤}
+use Rattle.refusal.specs.declared.Refusal.{Refusal}
 
 -- ---- no refusal before was 24
 
-abbrev pub No24 : ℕ → Type 0
-No24 k = eqb k 24 ≡ false
+abbrev pub No24 : Refusal → Type 0
+No24 k = eqb (number k) 24 ≡ false
 
-module _ (l : Link) (len number kind : ℕ) (b : List ℕ) (m : Moment) where
-  turn-no24 : No24 (turn_refusal l)
-  unfolding turn_refusal
+-- of a check
+abbrev pub NoneIs24 : Result ⊤ Refusal → Type 0
+NoneIs24 (Ok u) = Unit {0}
+NoneIs24 (Err k) = No24 k
+
+module _ (l : Link) (len n kind : ℕ) (b : List ℕ) (m : Moment) where
+  turn-no24 : NoneIs24 (check_turn l)
+  unfolding check_turn number
   turn-no24 =
-      by_row No24 l.closed 20 _ (λ _. refl)
-      (λ _. by_row No24 (not (may_send (not l.set.server) l.stage)) 22 0 (λ _. refl) (λ _. refl))
+      by_row NoneIs24 l.closed (Err LinkClosed) _ (λ _. refl)
+      (λ _. by_row NoneIs24 (not (may_send (not l.set.server) l.stage)) (Err NotOurTurn) (Ok tt) (λ _. refl) (λ _. tt))
 
-  length-no24 : No24 (length_refusal l len)
-  unfolding length_refusal
+  length-no24 : NoneIs24 (check_length l len)
+  unfolding check_length number
   length-no24 =
-      by_row No24 (ltb len 16) 1 _ (λ _. refl) (λ _.
-      by_row No24 (ltb l.stage 4 && leb 1024 len) 3 _ (λ _. refl) (λ _.
-      by_row No24 (ltb 16777215 len) 2 0 (λ _. refl) (λ _. refl)))
+      by_row NoneIs24 (ltb len 16) (Err LengthUnder16) _ (λ _. refl) (λ _.
+      by_row NoneIs24 (ltb l.stage 4 && leb 1024 len) (Err LengthInOpening) _ (λ _. refl) (λ _.
+      by_row NoneIs24 (ltb 16777215 len) (Err LengthOverLimit) (Ok tt) (λ _. refl) (λ _. tt)))
 
-  head-no24 : No24 (head_refusal l number kind)
-  unfolding head_refusal
+  head-no24 : NoneIs24 (check_head l n kind)
+  unfolding check_head number
   head-no24 =
-      by_row No24 (not (eqb number l.gets)) 4 _ (λ _. refl)
-      (λ _. by_row No24 (not (allowed_of l kind)) 5 0 (λ _. refl) (λ _. refl))
+      by_row NoneIs24 (not (eqb n l.gets)) (Err PacketNumber) _ (λ _. refl)
+      (λ _. by_row NoneIs24 (not (allowed_of l kind)) (Err TypeNotAllowed) (Ok tt) (λ _. refl) (λ _. tt))
 
-  nonce-no24 : No24 (nonce_before l b m)
-  unfolding nonce_before
+  nonce-no24 : NoneIs24 (nonce_before l b m)
+  unfolding nonce_before number
   nonce-no24 =
-      by_row No24 (ltb (length b) (least_of (version_at b))) 7 _ (λ _. refl) (λ _.
-      by_row No24 (not (near_of b m)) 8 _ (λ _. refl) (λ _.
-      by_row No24 (cipher_refused l b) 9 _ (λ _. refl) (λ _.
-      by_row No24 (beyond_of l.set (version_at b)) 10 0 (λ _. refl) (λ _. refl))))
+      by_row NoneIs24 (ltb (length b) (least_of (version_at b))) (Err OpeningShort) _ (λ _. refl) (λ _.
+      by_row NoneIs24 (not (near_of b m)) (Err Clocks) _ (λ _. refl) (λ _.
+      by_row NoneIs24 (cipher_refused l b) (Err Encryption) _ (λ _. refl) (λ _.
+      by_row NoneIs24 (beyond_of l.set (version_at b)) (Err BeyondOffer) (Ok tt) (λ _. refl) (λ _. tt))))
 
-  handshake-no24 : No24 (handshake_refusal l.set b)
-  unfolding handshake_refusal
+  handshake-no24 : NoneIs24 (check_handshake l.set b)
+  unfolding check_handshake number
   handshake-no24 =
-      by_row No24 (ltb (length b) 28) 7 _ (λ _. refl) (λ _.
-      by_row No24 (not l.set.server && (not l.set.allows && flag_of b)) 10 0 (λ _. refl) (λ _. refl))
+      by_row NoneIs24 (ltb (length b) 28) (Err OpeningShort) _ (λ _. refl) (λ _.
+      by_row NoneIs24 (not l.set.server && (not l.set.allows && flag_of b)) (Err BeyondOffer) (Ok tt) (λ _. refl) (λ _. tt))
 
-  ping-no24 : No24 (ping_refusal l b)
-  unfolding ping_refusal
+  ping-no24 : NoneIs24 (check_ping l b)
+  unfolding check_ping number
   ping-no24 =
-      by_row No24 (not (eqb (length b) 8)) 17 _ (λ _. refl) (λ _. by_row No24 l.owes 21 0 (λ _. refl) (λ _. refl))
+      by_row NoneIs24 (not (eqb (length b) 8)) (Err BodySize) _ (λ _. refl) (λ _. by_row NoneIs24 l.owes (Err PingOutOfTurn) (Ok tt) (λ _. refl) (λ _. tt))
 
-  pong-no24 : No24 (pong_refusal l b)
-  unfolding pong_refusal
+  pong-no24 : NoneIs24 (check_pong l b)
+  unfolding check_pong number
   pong-no24 =
-      by_row No24 (not (eqb (length b) 8)) 17 _ (λ _. refl) (λ _.
-      by_row No24 (not l.awaits) 21 _ (λ _. refl) (λ _.
-      by_row No24 (not (eqb (id_at b) l.awaited)) 21 0 (λ _. refl) (λ _. refl)))
+      by_row NoneIs24 (not (eqb (length b) 8)) (Err BodySize) _ (λ _. refl) (λ _.
+      by_row NoneIs24 (not l.awaits) (Err PingOutOfTurn) _ (λ _. refl) (λ _.
+      by_row NoneIs24 (not (eqb (id_at b) l.awaited)) (Err PingOutOfTurn) (Ok tt) (λ _. refl) (λ _. tt)))
 
-  pub body-no24 : No24 (body_before l kind b m)
+  pub body-no24 : NoneIs24 (body_before l kind b m)
   unfolding body_before
   body-no24 =
-      by_row No24 (eqb kind 0x7acb87aa) (nonce_before l b m) _ (λ _. nonce-no24) (λ _.
-      by_row No24 (eqb kind 0x7682eef5) (handshake_refusal l.set b) _ (λ _. handshake-no24) (λ _.
-      by_row No24 (eqb kind 0x5730a2df) (ping_refusal l b) _ (λ _. ping-no24) (λ _.
-      by_row No24 (eqb kind 0x8430eaa7) (pong_refusal l b) 0 (λ _. pong-no24) (λ _. refl))))
+      by_row NoneIs24 (eqb kind 0x7acb87aa) (nonce_before l b m) _ (λ _. nonce-no24) (λ _.
+      by_row NoneIs24 (eqb kind 0x7682eef5) (check_handshake l.set b) _ (λ _. handshake-no24) (λ _.
+      by_row NoneIs24 (eqb kind 0x5730a2df) (check_ping l b) _ (λ _. ping-no24) (λ _.
+      by_row NoneIs24 (eqb kind 0x8430eaa7) (check_pong l b) (Ok tt) (λ _. pong-no24) (λ _. tt))))
 
 -- an answer that is no 24
-abbrev pub Known : Arrival → Type 0
-Known (Incomplete k) = Unit {0}
-Known (Packet kind consumed at len) = Unit {0}
-Known (Refused k) = No24 k
+abbrev pub Known : Result Arrival Refusal → Type 0
+Known (Ok (Incomplete k)) = Unit {0}
+Known (Ok (Packet kind consumed at len)) = Unit {0}
+Known (Err k) = No24 k
+
+-- what a check refuses is none
+err-known : (r : Result ⊤ Refusal) → NoneIs24 r → (k : Refusal) → r ≡ Err k → Known (Err k)
+err-known r h k e = subst NoneIs24 e h
 
 module _ (l : Link) (m : Moment) where
   whole-known : (s : List ℕ) (kind size zeros before : ℕ) → Known (whole_of l s kind size zeros before)
-  unfolding whole_of
+  unfolding whole_of number
   whole-known s kind size zeros before =
-      by_row Known (not (eqb (le (part s (size - 4) 4)) (sum_of l (take (size - 4) s)))) (Refused 6) _ (λ _. refl) (λ _.
-      by_row Known (not (eqb (le (part s size zeros)) 0)) (Refused 25) _ (λ _. refl) (λ _. tt))
+      by_row Known (not (eqb (le (part s (size - 4) 4)) (sum_of l (take (size - 4) s)))) (Err Checksum) _ (λ _. refl) (λ _.
+      by_row Known (not (eqb (le (part s size zeros)) 0)) (Err PaddingNotZero) _ (λ _. refl) (λ _. tt))
 
   rows-known : (s : List ℕ) (before : ℕ) → Known (rows_of l s before)
   unfolding rows_of
   rows-known s before =
-      by_row Known (ltb (length s) 4) (Incomplete (4 - length s)) _ (λ _. tt) (λ _.
-      by_row Known (refuses (length_refusal l (length_at s))) (Refused (length_refusal l (length_at s))) _
-      (λ _. length-no24 l (length_at s) 0 0 s m) (λ _.
-      by_row Known (ltb (length s) 12) (Incomplete (12 - length s)) _ (λ _. tt) (λ _.
-      by_row Known (refuses (head_refusal l (number_at s) (kind_at s))) (Refused (head_refusal l (number_at s) (kind_at s)))
-      _ (λ _. head-no24 l 0 (number_at s) (kind_at s) s m) (λ _.
-      by_row Known (ltb (length s) (whole_size l s)) (Incomplete (whole_size l s - length s)) _ (λ _. tt)
+      by_row Known (ltb (length s) 4) (Ok (Incomplete (4 - length s))) _ (λ _. tt) (λ _.
+      by_check Known (check_length l (length_at s)) _ (err-known _ (length-no24 l (length_at s) 0 0 s m)) (λ _.
+      by_row Known (ltb (length s) 12) (Ok (Incomplete (12 - length s))) _ (λ _. tt) (λ _.
+      by_check Known (check_head l (number_at s) (kind_at s)) _ (err-known _ (head-no24 l 0 (number_at s) (kind_at s) s m)) (λ _.
+      by_row Known (ltb (length s) (whole_size l s)) (Ok (Incomplete (whole_size l s - length s))) _ (λ _. tt)
       (λ _. whole-known s (kind_at s) (length_at s) (tail_of l (length_at s)) before)))))
 
   pub look_known : (s : List ℕ) → Known (look_of l s)
-  unfolding look_of frame_of
+  unfolding look_of frame_of number
   look_known s =
-      by_row Known (refuses (turn_refusal l)) (Refused (turn_refusal l)) _ (λ _. turn-no24 l 0 0 0 s m) (λ _.
-      by_row Known (eqb (words_of l s) 4) (Refused 26) _ (λ _. refl)
+      by_check Known (check_turn l) _ (err-known _ (turn-no24 l 0 0 0 s m)) (λ _.
+      by_row Known (eqb (words_of l s) 4) (Err FourthWord) _ (λ _. refl)
       (λ _. rows-known (drop (words_of l s * 4) s) (words_of l s * 4)))
 
 -- such a refusal closes as before
-closes-alike : (k : ℕ) → No24 k → closes_of k ≡ closes_before k
+closes-alike : (k : Refusal) → No24 k → closes_of k ≡ closes_before k
 unfolding closes_of closes_before
 closes-alike k e = rw e
 
-pub refused-alike : (l : Link) (k : ℕ) → No24 k → refuse l k ≡ refuse_before l k
+pub refused-alike : (l : Link) (k : Refusal) → No24 k → refuse l k ≡ refuse_before l k
 unfolding refused_of
 refused-alike l k e = rw (closes-alike k e)
 
@@ -140,17 +150,17 @@ refused-alike l k e = rw (closes-alike k e)
 
 -- FROM THE LOWEST UP: a Nonce whose version is not below the lowest is judged as before
 pub from-lowest-up : (l : Link) (b : List ℕ) (m : Moment) → l.set.lowest ≤ version_at b
-    → nonce_refusal l b m ≡ nonce_before l b m
-unfolding nonce_refusal nonce_before
+    → check_nonce l b m ≡ nonce_before l b m
+unfolding check_nonce nonce_before
 from-lowest-up l b m h = simp (le-ltb (version_at b) l.set.lowest h)
 
 -- ---- with lowest version 0
 
 module _ (l : Link) (s : List ℕ) (m : Moment) (none : l.set.lowest ≡ 0) where
-  pub nonce-alike : (b : List ℕ) → nonce_refusal l b m ≡ nonce_before l b m
+  pub nonce-alike : (b : List ℕ) → check_nonce l b m ≡ nonce_before l b m
   nonce-alike b = from-lowest-up l b m (omega arith)
 
 -- set-up without a key refuses no link that is clear only
-pub set-up-as-base : (set : Settings) → set.cipher ≡ false → set.lowest ≡ 0 → set_up_of set none ≡ Ready (fresh_of set 0)
+pub set-up-as-base : (set : Settings) → set.cipher ≡ false → set.lowest ≡ 0 → set_up_of set None ≡ Ok (fresh_of set 0)
 unfolding key_refused key_id_of
-set-up-as-base set clear zero = set-up-takes set none clear (omega arith)
+set-up-as-base set clear zero = set-up-takes set None clear (omega arith)

@@ -11,35 +11,34 @@ use Rattle.wire.specs.Choice.{pick}
 use Rattle.link_state.specs.declared.Link.{Link}
 use Rattle.link_state.specs.declared.Settings.{Settings}
 use Rattle.link_state.specs.declared.Moment.{Moment}
-use Rattle.link_state.specs.declared.SetUp.TheVariants as set-up
-use mathlib.Core.Option.{Option}
 use Rattle.link_state.specs.SetUp.{fresh_of, key_id_of, set_up_of}
 use Rattle.link_state.proofs.SetUpLaws.{set-up-took}
 use Rattle.link_state.specs.Turn.{may_send, stage_after}
-use Rattle.packet.specs.Allowed.{allowed_of, refuses}
+use Rattle.packet.specs.Allowed.{allowed_of}
 use Rattle.packet.specs.declared.Arrival.{Arrival}
-use Rattle.packet.specs.declared.Arrival.TheVariants.{Incomplete, Packet, Refused}
-use Rattle.opening.specs.Nonce.{nonce_refusal}
+use Rattle.packet.specs.declared.Arrival.TheVariants.{Incomplete, Packet}
 use Rattle.link.specs.Look.{look_of}
 use Rattle.link_next.specs.Next.{closed_of, version_after, after_of}
-use Rattle.link.specs.Receive.{body_refusal, receive_by, receive_of}
+use Rattle.link.specs.Receive.{check_body, receive_by, receive_of}
 use Rattle.link.specs.declared.Received.{Received}
 use Rattle.packet_out.specs.Size.{size_of}
 use Rattle.send_rules.specs.Sent.{sent_of}
 use Rattle.send_rules.specs.declared.Step.{Step}
 use Rattle.flush.specs.Flush.{words_due, flushed_of}
 use Rattle.link_calls.specs.Calls.{Call, receives, sends, flushes, after_call, after_calls, type_of}
-use Rattle.link_calls.proofs.Ways.{refuses-none, by-body, receive-ways, send-ways, flush-ways}
+use Rattle.link_calls.proofs.Ways.{by-body, receive-ways, send-ways, flush-ways}
 use Rattle.link_versions.specs.Heard.{heard_from}
 use Rattle.link_versions.proofs.Accepted.{not-older, past-nonces}
+use Rattle.std.specs.Prelude.{Err, Ok, Option, Result}
+use Rattle.refusal.specs.declared.Refusal.{Refusal}
 
 -- ---- one receive call
 
 -- a body that the link does not refuse, of a Nonce
-module _ (l : Link) (kind : ℕ) (b : List ℕ) (m : Moment) (e : refuses (body_refusal l kind b m) ≡ false) where
+module _ (l : Link) (kind : ℕ) (b : List ℕ) (m : Moment) (e : check_body l kind b m ≡ Ok tt) where
   nonce-after : eqb kind 0x7acb87aa ≡ true → l.set.lowest ≤ (after_of l kind b m).version
-  unfolding body_refusal after_of version_after
-  nonce-after q = rw q (not-older l b m (refuses-none (nonce_refusal l b m) (rw q at e)))
+  unfolding check_body after_of version_after
+  nonce-after q = rw q (not-older l b m (rw q at e))
 
   other_after : eqb kind 0x7acb87aa ≡ false → (after_of l kind b m).version ≡ l.version
   unfolding after_of version_after
@@ -47,18 +46,18 @@ module _ (l : Link) (kind : ℕ) (b : List ℕ) (m : Moment) (e : refuses (body_
 
 -- an accepted Nonce's version
 accepted : (l : Link) (s : List ℕ) (m : Moment) (consumed at len : ℕ)
-    → (receive_of l s m).answer ≡ Packet 0x7acb87aa consumed at len
+    → (receive_of l s m).answer ≡ Ok (Packet 0x7acb87aa consumed at len)
     → l.set.lowest ≤ (receive_of l s m).link.version
 unfolding receive_of
 accepted l s m consumed at len = go (look_of l s)
   where
     Right : Received → Type 0
-    Right r = r.answer ≡ Packet 0x7acb87aa consumed at len → l.set.lowest ≤ r.link.version
+    Right r = r.answer ≡ Ok (Packet 0x7acb87aa consumed at len) → l.set.lowest ≤ r.link.version
 
-    go : (a : Arrival) → Right (receive_by l s m a)
-    go (Incomplete k) e = let z : ◌≡◌ {A = ℕ} 0 1 = cc in absurd (omega arith)
-    go (Refused k) e = let z : ◌≡◌ {A = ℕ} 0 1 = cc in absurd (omega arith)
-    go (Packet kind c i n) e =
+    go : (a : Result Arrival Refusal) → Right (receive_by l s m a)
+    go (Ok (Incomplete k)) e = let z : ◌≡◌ {A = ℕ} 0 1 = cc in absurd (omega arith)
+    go (Err k) e = let z : ◌≡◌ {A = ℕ} 0 1 = cc in absurd (omega arith)
+    go (Ok (Packet kind c i n)) e =
         by-body l s m Right kind c i n (λ k e. let z : ◌≡◌ {A = ℕ} 0 1 = cc in absurd (omega arith))
         (λ ok e. nonce-after l kind (within s i n) m ok (eq-eqb kind 0x7acb87aa cc)) e
 
@@ -87,7 +86,7 @@ module _ (set : Settings) (t : ℕ) (early : t ≤ 2)
     after-set kind b m = h.settings
 
     holds_after : (kind : ℕ) (b : List ℕ) (m : Moment) → allowed_of l kind ≡ true
-        → refuses (body_refusal l kind b m) ≡ false → Holds set t (after_of l kind b m)
+        → check_body l kind b m ≡ Ok tt → Holds set t (after_of l kind b m)
     holds_after kind b m may ok =
         record { settings = after-set kind b m; version = λ _. go (eqb kind 0x7acb87aa) refl }
       where
@@ -127,7 +126,7 @@ module _ (set : Settings) (t : ℕ) (early : t ≤ 2)
 -- NO OLDER: once a receive call accepted a Nonce, and whatever calls follow, the link's version is at least its lowest:
 -- of every link, also of one that no call has made
 pub no-older : (l : Link) (s : List ℕ) (m : Moment) (consumed at len : ℕ)
-    → (receive_of l s m).answer ≡ Packet 0x7acb87aa consumed at len
+    → (receive_of l s m).answer ≡ Ok (Packet 0x7acb87aa consumed at len)
     → (cs : List Call) → l.set.lowest ≤ (after_calls (receive_of l s m).link cs).version
 no-older l s m consumed at len e cs =
     (holds-calls l.set 0 (omega arith) (λ n _ _. omega arith) (receive_of l s m).link cs
@@ -161,7 +160,7 @@ soon : (v : Bool) → heard_from v ≤ 2
 soon true = omega arith
 soon false = omega arith
 
-pub holds-from-set-up : (set : Settings) (key : Option (List ℕ)) (l : Link) → set_up_of set key ≡ set-up.Ready l
+pub holds-from-set-up : (set : Settings) (key : Option (List ℕ)) (l : Link) → set_up_of set key ≡ Ok l
     → (cs : List Call)
     → Holds set (heard_from set.server) (after_calls l cs)
 holds-from-set-up set key l e cs =
@@ -170,7 +169,7 @@ holds-from-set-up set key l e cs =
 
 -- NONE OPENS WITH AN OLD VERSION: a link that was set up, with a key or without, after any calls on any bytes, has a
 -- version at least its lowest as soon as it has the other side's Nonce, so also when it is open
-pub none-opens-older : (set : Settings) (key : Option (List ℕ)) (l : Link) → set_up_of set key ≡ set-up.Ready l
+pub none-opens-older : (set : Settings) (key : Option (List ℕ)) (l : Link) → set_up_of set key ≡ Ok l
     → (cs : List Call)
     → heard_from set.server ≤ (after_calls l cs).stage → set.lowest ≤ (after_calls l cs).version
 none-opens-older set key l e cs = (holds-from-set-up set key l e cs).version

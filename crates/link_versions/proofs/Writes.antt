@@ -17,7 +17,6 @@ use Rattle.link_state.specs.Turn.{may_send}
 use Rattle.packet.specs.Sum.{sum_of}
 use Rattle.packet_padding.specs.Padding.{tail_of}
 use Rattle.packet_out.specs.Packet.{head_of, front_of, packet_of}
-use Rattle.packet_out.specs.declared.Sent.TheVariants.{Written}
 use Rattle.packet_out.proofs.PacketLaws.{length-head}
 use Rattle.send_rules.specs.Control.{control_answer}
 use Rattle.nonce_out.proofs.SentLaws.{small-version, nonce-answered, nonce-left}
@@ -28,6 +27,7 @@ use Rattle.send.specs.declared.ToSend.TheVariants.{Nonce}
 use Rattle.link_versions.specs.Heard.{heard_from}
 use Rattle.link_versions.proofs.Accepted.{at_turn}
 use Rattle.link_versions.proofs.NoOlder.{Holds}
+use Rattle.std.specs.Prelude.{Ok}
 
 -- ---- the version that a link writes
 
@@ -76,8 +76,8 @@ module _ (k : Link) (keyid encryption version time : ℕ) (random point rest : L
 -- ---- the send call
 
 module _ (k : Link) (p b : List ℕ) (drawn : Drawn) (m : Moment) (n : ℕ)
-    (e : (send_of k Nonce p drawn m (length b)).answer ≡ Written n) where
-  step : (nonce_step k drawn m (length b)).answer ≡ Written n
+    (e : (send_of k Nonce p drawn m (length b)).answer ≡ Ok n) where
+  step : (nonce_step k drawn m (length b)).answer ≡ Ok n
   unfolding send_of
   step = e
 

@@ -1,3 +1,2 @@
 -- Laws that the proofs of crate md5_hash cite.
-pub mod Fours
 pub mod Turns

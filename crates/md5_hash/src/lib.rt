@@ -1,15 +1,15 @@
 // MD5 (RFC 1321).
 //
-// `md5` takes a slice of any length and gives the 16 bytes of its digest. The message is not copied: its whole blocks
-// are read where they stand, and only the last one or two are made up, by the crate `hash_blocks`. The definition is
+// `md5` takes a slice of any length and gives the 16 bytes of its digest. How a message is cut into blocks is known to
+// the crate `hash_blocks`; the type that it is given is `Md5`, and `State` goes from block to block. The definition is
 // in specs/Md5.antt.
 #![tactic(auto)]
 
-mod blocks;
 mod steps;
 mod tables;
+mod whole;
 
-pub use blocks::md5;
+pub use whole::md5;
 
 // The four words that go from block to block.
 #[derive(Clone, Copy)]

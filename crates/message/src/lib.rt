@@ -15,7 +15,7 @@ use result::Reply;
 pub use slice::part_of;
 pub use types::{CANCEL, CLIENT_FIN, INVOKE, OLD_ERROR, RESULT, SERVER_FIN};
 
-// What a body means, or a refusal's number.
+// What a body means.
 #[derive(Clone, Copy)]
 pub enum Message {
     Invoke(Invoke),
@@ -23,5 +23,4 @@ pub enum Message {
     ClientFin,
     Result(Reply),
     ServerFin,
-    Refused(u8),
 }

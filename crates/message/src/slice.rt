@@ -3,35 +3,28 @@ ghost use Rattle.std.specs.Prelude.{◌≡◌};
 ghost use Rattle.message.specs.PartOf.{answer_part, part_of};
 
 use crate::Message;
+use refusal::Refusal;
 use result::Answer;
 use wire::part;
 
+#[tactic(auto, unfolding(crate::specs::PartOf::answer_part))]
 fn answer_part<'a>(s: &'a [u8], answer: Answer) -> &'a [u8]
     ensures { result.now ≡ answer_part s.now answer }
 {
     match answer {
-        Answer::Payload { at, len } => part(s, at, len),
-        Answer::Error { code: _, at, len } => part(s, at, len),
+        Answer::Payload { at, len } | Answer::Error { at, len, .. } => part(s, at, len),
     }
 }
 
-// The payload or text of m in the body s; empty where m has none, or names bytes that s has not.
-pub fn part_of<'a>(s: &'a [u8], m: Message) -> &'a [u8]
-    ensures { result.now ≡ part_of s.now m }
+// The payload or text of a message that was read in the body s; empty where it has none, names bytes that s has not,
+// or was refused.
+#[tactic(auto, unfolding(crate::specs::PartOf::part_of))]
+pub fn part_of<'a>(s: &'a [u8], read: Result<Message, Refusal>) -> &'a [u8]
+    ensures { result.now ≡ part_of s.now read }
 {
-    match m {
-        Message::Invoke(i) => {
-            let at = i.at;
-            let len = i.len;
-            part(s, at, len)
-        }
-        Message::Result(r) => {
-            let answer = r.answer;
-            answer_part(s, answer)
-        }
-        Message::Cancel(_) => &s[..0],
-        Message::ClientFin => &s[..0],
-        Message::ServerFin => &s[..0],
-        Message::Refused(_) => &s[..0],
+    match read {
+        Ok(Message::Invoke(i)) => part(s, i.at, i.len),
+        Ok(Message::Result(r)) => answer_part(s, r.answer),
+        Ok(Message::Cancel(_) | Message::ClientFin | Message::ServerFin) | Err(_) => &s[..0],
     }
 }

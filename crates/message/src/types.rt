@@ -1,4 +1,5 @@
 // The message types: a packet's type is its message's type.
+// Kept: numbers: a packet may come with any, and reading refuses each that is none of these (19), as its contract says.
 
 // Client to server.
 pub const INVOKE: u32 = 0x2374df3d;

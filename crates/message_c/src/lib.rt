@@ -12,6 +12,7 @@ pub use messages::relay_read_message;
 // A message that was read. kind: 0 refused, 1 invoke, 2 cancel, 3 client fin, 4 result with a payload, 5 result with an
 // error, 6 server fin. refusal is the refusal's number. hasactor and hastimeout: an invoke gives an actor, a timeout in
 // ms. The payload or text is the len bytes of the body from byte at on. A field that the kind does not have is 0.
+// Kept: a number for the kind and for the refusal, and flags beside their values: the C interface (include/relay.h).
 #[repr(C)]
 #[derive(Clone, Copy)]
 pub struct RelayMessage {

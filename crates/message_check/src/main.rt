@@ -5,117 +5,58 @@
 
 mod print;
 
-ghost use Rattle.std.specs.Prelude.{◌≤◌};
-
-use body::Written;
+use check_records::{each_record, fill, fill_front, front, refused};
 use header::Side;
-use invoke::{Actor, Invoke, Timeout};
+use invoke::Invoke;
 use message::Message;
-use print::{refused, signed};
+use refusal::Refusal;
 use result::{Answer, Reply};
-use std::io::{self, ErrorKind, Read};
+use std::io::{self, Read};
 
 // A body's bytes, and a buffer's: a record has at most 80,000 of either.
 const MOST: usize = 81920;
-
-fn size(x: u32) -> usize {
-    x as usize
-}
-
-fn least(a: usize, b: usize) -> usize
-    ensures { (result ≤ a) × (result ≤ b) }
-{
-    if a < b { a } else { b }
-}
-
-fn print_actor(out: &impl Print, actor: Actor) -> io::Result<()> {
-    match actor {
-        Actor::Absent => print!(out; "-"),
-        Actor::Is(n) => signed(out, n),
-    }
-}
-
-fn print_timeout(out: &impl Print, timeout: Timeout) -> io::Result<()> {
-    match timeout {
-        Timeout::Absent => print!(out; "-"),
-        Timeout::Ms(n) => print!(out; "{n}"),
-    }
-}
 
 fn print_place(out: &impl Print, at: usize, len: usize) -> io::Result<()> {
     println!(out; " {at} {len}")
 }
 
 fn print_invoke(out: &impl Print, i: Invoke) -> io::Result<()> {
-    let actor = i.actor;
-    let timeout = i.timeout;
-    print!(out; "invoke ")?;
-    signed(out, i.number)?;
+    print!(out; "invoke {} ", i.number)?;
+    print::or_dash(out, i.actor)?;
     print!(out; " ")?;
-    print_actor(out, actor)?;
-    print!(out; " ")?;
-    print_timeout(out, timeout)?;
-    if i.tl2 {
-        print!(out; " 1")?;
-    } else {
-        print!(out; " 0")?;
-    }
+    print::or_dash(out, i.timeout)?;
+    print!(out; " {}", u8::from(i.tl2))?;
     print_place(out, i.at, i.len)
 }
 
 fn print_reply(out: &impl Print, r: Reply) -> io::Result<()> {
-    print!(out; "result ")?;
-    signed(out, r.number)?;
-    let answer = r.answer;
-    match answer {
+    print!(out; "result {}", r.number)?;
+    match r.answer {
         Answer::Payload { at, len } => {
             print!(out; " payload")?;
             print_place(out, at, len)
         }
         Answer::Error { code, at, len } => {
-            print!(out; " error ")?;
-            print::signed32(out, code)?;
+            print!(out; " error {code}")?;
             print_place(out, at, len)
         }
     }
 }
 
-fn print_message(out: &impl Print, m: Message) -> io::Result<()> {
-    match m {
-        Message::Invoke(i) => print_invoke(out, i),
-        Message::Cancel(n) => {
-            print!(out; "cancel ")?;
-            signed(out, n)?;
-            println!(out)
-        }
-        Message::ClientFin => println!(out; "client_fin"),
-        Message::Result(r) => print_reply(out, r),
-        Message::ServerFin => println!(out; "server_fin"),
-        Message::Refused(n) => refused(out, n),
-    }
+fn refused_line(out: &impl Print, refusal: Refusal) -> io::Result<()> {
+    refused(out, refusal)?;
+    println!(out)
 }
 
-// The first n bytes of space, or all of it.
-fn front<'a>(space: &'a [u8], n: usize) -> &'a [u8] {
-    let end = least(n, space.len());
-    &space[0..end]
-}
-
-// Fills the buffer; false where the input ends before.
-fn fill(input: &mut impl Read, buf: &mut [u8]) -> io::Result<bool> {
-    match input.read_exact(buf) {
-        Ok(()) => Ok(true),
-        Err(e) if e.kind() == ErrorKind::UnexpectedEof => Ok(false),
-        Err(e) => Err(e),
+fn print_read(out: &impl Print, read: Result<Message, Refusal>) -> io::Result<()> {
+    match read {
+        Ok(Message::Invoke(i)) => print_invoke(out, i),
+        Ok(Message::Cancel(number)) => println!(out; "cancel {number}"),
+        Ok(Message::ClientFin) => println!(out; "client_fin"),
+        Ok(Message::Result(r)) => print_reply(out, r),
+        Ok(Message::ServerFin) => println!(out; "server_fin"),
+        Err(refusal) => refused_line(out, refusal),
     }
-}
-
-// Reads n bytes to the front of space; false where there are not so many.
-fn fill_front(input: &mut impl Read, space: &mut [u8], n: usize) -> io::Result<bool> {
-    if space.len() < n {
-        return Ok(false);
-    }
-    fill(input, &mut space[0..n])
 }
 
 // Operation 0: side (1), type (4), n (4), n bytes.
@@ -125,43 +66,26 @@ fn read(input: &mut impl Read, out: &impl Print, space: &mut [u8]) -> io::Result
         return Ok(false);
     }
     let tag = wire::u32_at(&head, 1);
-    let n = size(wire::u32_at(&head, 5));
+    let n = wire::u32_at(&head, 5) as usize;
     if !fill_front(input, space, n)? {
         return Ok(false);
     }
-    let s = front(space, n);
-    if head[0] == 0 {
-        print_message(out, message::read_message(Side::Server, tag, s))?;
+    let side = if head[0] == 0 {
+        Side::Server
     } else {
-        print_message(out, message::read_message(Side::Client, tag, s))?;
-    }
+        Side::Client
+    };
+    print_read(out, message::read_message(side, tag, front(space, n)))?;
     Ok(true)
 }
 
-fn actor_of(given: u8, actor: i64) -> Actor {
-    if given == 0 {
-        Actor::Absent
-    } else {
-        Actor::Is(actor)
-    }
-}
-
-fn timeout_of(given: u8, ms: u32) -> Timeout {
-    if given == 0 {
-        Timeout::Absent
-    } else {
-        Timeout::Ms(ms)
-    }
-}
-
 // The message whose fields are head, with these bytes as its payload or text, into d.
-fn write_kind(d: &mut [u8], head: &[u8], s: &[u8]) -> Written {
+fn write_kind(d: &mut [u8], head: &[u8], s: &[u8]) -> Result<usize, Refusal> {
     let number = wire::i64_at(head, 1);
-    let kind = wire::u8_at(head, 0);
-    match kind {
+    match wire::u8_at(head, 0) {
         0 => {
-            let actor = actor_of(wire::u8_at(head, 9), wire::i64_at(head, 10));
-            let timeout = timeout_of(wire::u8_at(head, 18), wire::u32_at(head, 19));
+            let actor = (wire::u8_at(head, 9) != 0).then_some(wire::i64_at(head, 10));
+            let timeout = (wire::u8_at(head, 18) != 0).then_some(wire::u32_at(head, 19));
             let tl2 = wire::u8_at(head, 23) != 0;
             invoke_out::write_invoke(d, number, actor, timeout, tl2, s)
         }
@@ -172,14 +96,10 @@ fn write_kind(d: &mut [u8], head: &[u8], s: &[u8]) -> Written {
     }
 }
 
-fn print_written(out: &impl Print, w: Written, d: &[u8]) -> io::Result<()> {
-    match w {
-        Written::Refused(n) => refused(out, n),
-        Written::Size(k) => {
-            print!(out; "size {k}")?;
-            print::sum(out, checksum::crc32(d))?;
-            println!(out)
-        }
+fn print_written(out: &impl Print, written: Result<usize, Refusal>, d: &[u8]) -> io::Result<()> {
+    match written {
+        Ok(size) => println!(out; "size {size} {:08x}", checksum::crc32(d)),
+        Err(refusal) => refused_line(out, refusal),
     }
 }
 
@@ -190,15 +110,14 @@ fn write(input: &mut impl Read, out: &impl Print, space: &mut [u8]) -> io::Resul
     if !fill(input, &mut head)? {
         return Ok(false);
     }
-    let n = size(wire::u32_at(&head, 32));
+    let n = wire::u32_at(&head, 32) as usize;
     if !fill_front(input, space, n)? {
         return Ok(false);
     }
-    let mut lent = [0xa5u8; 81920];
-    let d: &mut [u8] = &mut lent;
-    let room = least(size(wire::u32_at(&head, 28)), d.len());
-    let w = write_kind(&mut d[0..room], &head, front(space, n));
-    print_written(out, w, front(d, room))?;
+    let mut lent = [0xa5u8; MOST];
+    let room = (wire::u32_at(&head, 28) as usize).min(lent.len());
+    let written = write_kind(&mut lent[..room], &head, front(space, n));
+    print_written(out, written, &lent[..room])?;
     Ok(true)
 }
 
@@ -217,12 +136,7 @@ fn record(input: &mut impl Read, out: &impl Print, space: &mut [u8]) -> io::Resu
 
 fn main(rt: HostRuntime) -> io::Result<()> {
     let mut input = rt.reader();
-    let mut space = [0u8; 81920];
+    let mut space = [0u8; MOST];
     let body: &mut [u8] = &mut space;
-    for _ in 0..u64::MAX {
-        if !record(&mut input, &rt, body)? {
-            break;
-        }
-    }
-    Ok(())
+    each_record(|| record(&mut input, &rt, body))
 }

@@ -23,17 +23,17 @@ use Rattle.header.specs.Headers.{request_kind, kind_of, is_header, reads_as_head
 use Rattle.header.specs.declared.Side.TheVariants.{Server}
 use Rattle.header.specs.declared.Kind as K
 use Rattle.invoke.specs.Fields.{is_given, effective_timeout}
-use Rattle.invoke.specs.declared.Actor as A
-use Rattle.invoke.specs.declared.Timeout as T
-use Rattle.invoke.specs.declared.InvokeRead as R
-use Rattle.invoke_headers.specs.declared.Extra as E
-use Rattle.invoke_headers.specs.declared.Next as N
+use Rattle.invoke_headers.specs.declared.Next.{Next}
+use Rattle.invoke_headers.specs.declared.Next.TheVariants.{More, Done}
 use Rattle.invoke_headers.specs.declared.Headers.{Headers}
 use Rattle.invoke_headers.specs.Headers.{read_extra, flags_of, actor_of, both_of, by_kind, next_of, go_on}
 use Rattle.invoke_headers.specs.Headers.{headers_from, start}
 use Rattle.invoke_in.specs.ReadInvoke.{meaning, read_invoke}
 use Rattle.invoke_in.proofs.InvokeLaws.{weight, turn, read_is}
 use Rattle.invoke_out.specs.WriteInvoke.{marker_bytes, payload_refused}
+use Rattle.refusal.specs.declared.Refusal.TheVariants.{NumberZero}
+use Rattle.std.specs.Prelude.{Err, Option, Some, None, Result, Ok}
+use Rattle.refusal.specs.declared.Refusal.{Refusal}
 
 -- ---- one header, behind p
 
@@ -48,17 +48,17 @@ number_at : (q : List ℕ) (k v : ℕ) (x : List ℕ) (at : ℕ) → length q �
 number_at q k v x at l f = ap le (part-mid q (bytes k v) x at k l (length-bytes k v)) ∙ le_bytes k v f
 
 module _ (q x : List ℕ) (at : ℕ) (l : length q ≡ at) where
-  extra-at : (t : T.Timeout) → TimeoutFits t
-      → read_extra (q ++ (extra_bytes t ++ x)) at ≡ E.TheVariants.Is t (at + length (extra_bytes t))
+  extra-at : (t : Option ℕ) → TimeoutFits t
+      → read_extra (q ++ (extra_bytes t ++ x)) at ≡ Ok (record { timeout = t; next = at + length (extra_bytes t) })
   unfolding read_extra extra_bytes
-  extra-at T.TheVariants.Absent f =
+  extra-at None f =
       let s : List ℕ = q ++ (bytes 4 0 ++ x) in
       rw (
         le-ltb (length s - at) 4 (simp (length-append, length-bytes) (omega (arith, l))),
         number_at q 4 0 x at l (omega arith),
         length-bytes 4 0,
       )
-  extra-at (T.TheVariants.Ms t) f =
+  extra-at (Some t) f =
       let y : List ℕ = bytes 4 t ++ x in
       let s : List ℕ = q ++ (bytes 4 0x800000 ++ y) in
       let q' : List ℕ = q ++ bytes 4 0x800000 in
@@ -79,9 +79,9 @@ module _ (q x : List ℕ) (at : ℕ) (l : length q ≡ at) where
 -- what one header says of those before it
 abbrev with_actor : Headers → ℤ → Headers
 with_actor h a =
-    record { at = h.at + 12; actor = A.TheVariants.Is a; extra = h.extra; timeout = h.timeout; tl2 = false }
+    record { at = h.at + 12; actor = Some a; extra = h.extra; timeout = h.timeout; tl2 = false }
 
-abbrev with_timeout : Headers → A.Actor → ℕ → T.Timeout → Headers
+abbrev with_timeout : Headers → Option ℤ → ℕ → Option ℕ → Headers
 with_timeout h a k t =
     record { at = h.at + k + length (extra_bytes t); actor = a; extra = true; timeout = t; tl2 = false }
 
@@ -106,7 +106,7 @@ module _ (p x : List ℕ) (h : Headers) (l : length p ≡ h.at) where
       rw e (to_z-of_z f)
 
   actor-at : (a : ℤ) → SFits w64 a → is_given h.actor ≡ false
-      → next_of (p ++ (actor_header a ++ x)) h ≡ N.TheVariants.More (with_actor h a)
+      → next_of (p ++ (actor_header a ++ x)) h ≡ Ok (More (with_actor h a))
   unfolding actor_header actor_of kind_of request_kind
   actor-at a f none =
       let y : List ℕ = bytes 8 (of_z w64 a) ++ x in
@@ -119,19 +119,19 @@ module _ (p x : List ℕ) (h : Headers) (l : length p ≡ h.at) where
         id-at 0x7568aabd a x f,
       ))
 
-  flags-at : (t : T.Timeout) → TimeoutFits t → h.extra ≡ false
-      → next_of (p ++ (flags_header t ++ x)) h ≡ N.TheVariants.More (with_timeout h h.actor 4 t)
+  flags-at : (t : Option ℕ) → TimeoutFits t → h.extra ≡ false
+      → next_of (p ++ (flags_header t ++ x)) h ≡ Ok (More (with_timeout h h.actor 4 t))
   unfolding flags_header flags_of kind_of request_kind
   flags-at t f none =
       let y : List ℕ = extra_bytes t ++ x in
       let v : List ℕ = bytes 4 0xe352035e in
-      let e : read_extra (p ++ (v ++ y)) (h.at + 4) ≡ E.TheVariants.Is t (h.at + 4 + length (extra_bytes t)) =
+      let e : read_extra (p ++ (v ++ y)) (h.at + 4) ≡ Ok (record { timeout = t; next = h.at + 4 + length (extra_bytes t) }) =
       rw (append_assoc p v y) at (extra-at (p ++ v) x (h.at + 4) (behind 0xe352035e) t f) in
       rw (append_assoc v (extra_bytes t) x) (value-at 0xe352035e y (omega arith) ∙ rw (none, e))
 
-  both_at : (a : ℤ) (t : T.Timeout) → SFits w64 a → TimeoutFits t → is_given h.actor ≡ false → h.extra ≡ false
+  both_at : (a : ℤ) (t : Option ℕ) → SFits w64 a → TimeoutFits t → is_given h.actor ≡ false → h.extra ≡ false
       → next_of (p ++ ((bytes 4 0xf0a5acf7 ++ (bytes 8 (of_z w64 a) ++ extra_bytes t)) ++ x)) h
-      ≡ N.TheVariants.More (with_timeout h (A.TheVariants.Is a) 12 t)
+      ≡ Ok (More (with_timeout h (Some a) 12 t))
   unfolding both_of kind_of request_kind
   both_at a t f g none none' =
       let z : List ℕ = extra_bytes t ++ x in
@@ -139,7 +139,7 @@ module _ (p x : List ℕ) (h : Headers) (l : length p ≡ h.at) where
       let v : List ℕ = bytes 4 0xf0a5acf7 in
       let s : List ℕ = p ++ (v ++ (b ++ z)) in
       let q : List ℕ = (p ++ v) ++ b in
-      let e : read_extra s (h.at + 12) ≡ E.TheVariants.Is t (h.at + 12 + length (extra_bytes t)) =
+      let e : read_extra s (h.at + 12) ≡ Ok (record { timeout = t; next = h.at + 12 + length (extra_bytes t) }) =
       rw (append_assoc (p ++ v) b z, append_assoc p v (b ++ z)) at
       (extra-at q x (h.at + 12) (simp (length-append, length-bytes, l) (omega arith)) t g) in
       rw (append_assoc v (b ++ extra_bytes t) x, append_assoc b (extra_bytes t) x)
@@ -172,7 +172,7 @@ other K.TheVariants.NumberedError e = cc
 module _ (p payload : List ℕ) (h : Headers) (l : length p ≡ h.at) where
   no_header : (b : Bool) → ltb (length payload) 4 ≡ b
       → pick b false (is_header (kind_of Server (le (part payload 0 4)))) ≡ false
-      → next_of (p ++ payload) h ≡ N.TheVariants.Done h
+      → next_of (p ++ payload) h ≡ Ok (Done h)
   unfolding next_of flags_of actor_of both_of
   no_header true e c =
       simp
@@ -186,7 +186,7 @@ module _ (p payload : List ℕ) (h : Headers) (l : length p ≡ h.at) where
       )
 
   tail-back : (m : Bool) → payload_refused m payload ≡ false
-      → next_of (p ++ (marker_bytes m ++ payload)) h ≡ N.TheVariants.Done (ended h m)
+      → next_of (p ++ (marker_bytes m ++ payload)) h ≡ Ok (Done (ended h m))
   unfolding marker_bytes payload_refused reads_as_header flags_of actor_of both_of kind_of request_kind
   tail-back true c = value-at p payload h l 0x29324c54 payload (omega arith)
   tail-back false c = no_header (ltb (length payload) 4) refl c
@@ -195,21 +195,21 @@ module _ (p payload : List ℕ) (h : Headers) (l : length p ≡ h.at) where
 
 -- the headers from h on end with d
 abbrev Ends : List ℕ → Headers → Headers → Type 0
-Ends s h d = (k : ℕ) → weight h < k → headers_from k s h ≡ N.TheVariants.Done d
+Ends s h d = (k : ℕ) → weight h < k → headers_from k s h ≡ Ok (Done d)
 
 module _ (s : List ℕ) (h d : Headers) where
-  ends-here : next_of s h ≡ N.TheVariants.Done d → Ends s h d
-  ends-here e k w = turn k s h w ∙ ap (λ (x : N.Next). go_on x (headers_from (k - 1) s)) e
+  ends-here : next_of s h ≡ Ok (Done d) → Ends s h d
+  ends-here e k w = turn k s h w ∙ ap (λ (x : Result Next Refusal). go_on x (headers_from (k - 1) s)) e
 
-  ends-later : (g : Headers) → weight g < weight h → next_of s h ≡ N.TheVariants.More g → Ends s g d → Ends s h d
+  ends-later : (g : Headers) → weight g < weight h → next_of s h ≡ Ok (More g) → Ends s g d → Ends s h d
   ends-later g f e more k w =
-      turn k s h w ∙ ap (λ (x : N.Next). go_on x (headers_from (k - 1) s)) e ∙ more (k - 1) (omega (arith, f, w))
+      turn k s h w ∙ ap (λ (x : Result Next Refusal). go_on x (headers_from (k - 1) s)) e ∙ more (k - 1) (omega (arith, f, w))
 
 actor-length : (a : ℤ) → length (actor_header a) ≡ 12
 unfolding actor_header
 actor-length a = simp (length-append, length-bytes)
 
-flags-length : (t : T.Timeout) → length (flags_header t) ≡ 4 + length (extra_bytes t)
+flags-length : (t : Option ℕ) → length (flags_header t) ≡ 4 + length (extra_bytes t)
 unfolding flags_header
 flags-length t = simp (length-append, length-bytes)
 
@@ -218,7 +218,7 @@ has_extra NoExtra = false
 has_extra (Has place t) = true
 
 -- the headers of actor and extra, read
-abbrev said : A.Actor → Extra → Headers
+abbrev said : Option ℤ → Extra → Headers
 said a e =
     record { at = 8 + length (headers_of a e); actor = a; extra = has_extra e; timeout = timeout_in e; tl2 = false }
 
@@ -233,7 +233,7 @@ module _ (n : ℤ) (m : Bool) (payload : List ℕ) (c : payload_refused m payloa
   tail = marker_bytes m ++ payload
 
   -- behind all headers
-  end_of : (a : A.Actor) (e : Extra) → Ends (body_with e n a m payload) (said a e) (ended (said a e) m)
+  end_of : (a : Option ℤ) (e : Extra) → Ends (body_with e n a m payload) (said a e) (ended (said a e) m)
   unfolding body_with
   end_of a e =
       let h : List ℕ = headers_of a e in
@@ -241,70 +241,70 @@ module _ (n : ℤ) (m : Bool) (payload : List ℕ) (c : payload_refused m payloa
       (rw (append_assoc number h tail) at
       (tail-back (number ++ h) payload (said a e) (simp (length-append, length-bytes)) m c))
 
-  at-is : (a : A.Actor) (x : Bool) (t : T.Timeout) {j k : ℕ} → j ≡ k
-      → N.TheVariants.More (record { at = j; actor = a; extra = x; timeout = t; tl2 = false })
-      ≡ N.TheVariants.More (record { at = k; actor = a; extra = x; timeout = t; tl2 = false })
+  at-is : (a : Option ℤ) (x : Bool) (t : Option ℕ) {j k : ℕ} → j ≡ k
+      → ◌≡◌ {A = Result Next Refusal} (Ok (More (record { at = j; actor = a; extra = x; timeout = t; tl2 = false })))
+      (Ok (More (record { at = k; actor = a; extra = x; timeout = t; tl2 = false })))
   at-is a x t e =
-      ap (λ (z : ℕ). N.TheVariants.More (record { at = z; actor = a; extra = x; timeout = t; tl2 = false })) e
+      ap (λ (z : ℕ). Ok (More (record { at = z; actor = a; extra = x; timeout = t; tl2 = false }))) e
 
-  headers-read : (a : A.Actor) (e : Extra) → ActorFits a → ExtraFits e
+  headers-read : (a : Option ℤ) (e : Extra) → ActorFits a → ExtraFits e
       → Ends (body_with e n a m payload) start (ended (said a e) m)
   unfolding body_with headers_of
-  headers-read A.TheVariants.Absent NoExtra fa ft = end_of A.TheVariants.Absent NoExtra
-  headers-read (A.TheVariants.Is a) NoExtra fa ft =
-      ends-later _ start _ (said (A.TheVariants.Is a) NoExtra) (omega arith)
+  headers-read None NoExtra fa ft = end_of None NoExtra
+  headers-read (Some a) NoExtra fa ft =
+      ends-later _ start _ (said (Some a) NoExtra) (omega arith)
       (actor-at number tail start (length-bytes 8 (of_z w64 n)) a fa refl
-      ∙ at-is (A.TheVariants.Is a) false T.TheVariants.Absent (omega (arith, actor-length a)))
-      (end_of (A.TheVariants.Is a) NoExtra)
-  headers-read A.TheVariants.Absent (Has place t) fa ft =
-      ends-later _ start _ (said A.TheVariants.Absent (Has place t)) (omega arith)
+      ∙ at-is (Some a) false None (omega (arith, actor-length a)))
+      (end_of (Some a) NoExtra)
+  headers-read None (Has place t) fa ft =
+      ends-later _ start _ (said None (Has place t)) (omega arith)
       (flags-at number tail start (length-bytes 8 (of_z w64 n)) t ft refl
-      ∙ at-is A.TheVariants.Absent true t (omega (arith, flags-length t)))
-      (end_of A.TheVariants.Absent (Has place t))
-  headers-read (A.TheVariants.Is a) (Has Together t) fa ft =
-      ends-later _ start _ (said (A.TheVariants.Is a) (Has Together t)) (omega arith)
+      ∙ at-is None true t (omega (arith, flags-length t)))
+      (end_of None (Has place t))
+  headers-read (Some a) (Has Together t) fa ft =
+      ends-later _ start _ (said (Some a) (Has Together t)) (omega arith)
       (both_at number tail start (length-bytes 8 (of_z w64 n)) a t fa ft refl refl
-      ∙ at-is (A.TheVariants.Is a) true t (simp (length-append, length-bytes) (omega arith)))
-      (end_of (A.TheVariants.Is a) (Has Together t))
-  headers-read (A.TheVariants.Is a) (Has Before t) fa ft =
+      ∙ at-is (Some a) true t (simp (length-append, length-bytes) (omega arith)))
+      (end_of (Some a) (Has Together t))
+  headers-read (Some a) (Has Before t) fa ft =
       let h : List ℕ = flags_header t in
-      let g : Headers = with_timeout start A.TheVariants.Absent 4 t in
-      let one : next_of (number ++ ((h ++ actor_header a) ++ tail)) start ≡ N.TheVariants.More g =
+      let g : Headers = with_timeout start None 4 t in
+      let one : next_of (number ++ ((h ++ actor_header a) ++ tail)) start ≡ Ok (More g) =
       rw (append_assoc h (actor_header a) tail)
       (flags-at number (actor_header a ++ tail) start (length-bytes 8 (of_z w64 n)) t ft refl) in
-      let two : next_of (number ++ ((h ++ actor_header a) ++ tail)) g ≡ N.TheVariants.More (with_actor g a) =
+      let two : next_of (number ++ ((h ++ actor_header a) ++ tail)) g ≡ Ok (More (with_actor g a)) =
       rw (append_assoc h (actor_header a) tail)
       (rw (append_assoc number h (actor_header a ++ tail)) at
       (actor-at (number ++ h) tail g (simp (length-append, length-bytes, flags-length) (omega arith)) a fa refl)) in
       ends-later _ start _ g (omega arith) one
-      (ends-later _ g _ (said (A.TheVariants.Is a) (Has Before t)) (omega arith)
-      (two ∙ at-is (A.TheVariants.Is a) true t (simp (length-append, flags-length, actor-length) (omega arith)))
-      (end_of (A.TheVariants.Is a) (Has Before t)))
-  headers-read (A.TheVariants.Is a) (Has Behind t) fa ft =
+      (ends-later _ g _ (said (Some a) (Has Before t)) (omega arith)
+      (two ∙ at-is (Some a) true t (simp (length-append, flags-length, actor-length) (omega arith)))
+      (end_of (Some a) (Has Before t)))
+  headers-read (Some a) (Has Behind t) fa ft =
       let h : List ℕ = actor_header a in
       let g : Headers = with_actor start a in
-      let one : next_of (number ++ ((h ++ flags_header t) ++ tail)) start ≡ N.TheVariants.More g =
+      let one : next_of (number ++ ((h ++ flags_header t) ++ tail)) start ≡ Ok (More g) =
       rw (append_assoc h (flags_header t) tail)
       (actor-at number (flags_header t ++ tail) start (length-bytes 8 (of_z w64 n)) a fa refl) in
-      let k : Headers = with_timeout g (A.TheVariants.Is a) 4 t in
-      let two : next_of (number ++ ((h ++ flags_header t) ++ tail)) g ≡ N.TheVariants.More k =
+      let k : Headers = with_timeout g (Some a) 4 t in
+      let two : next_of (number ++ ((h ++ flags_header t) ++ tail)) g ≡ Ok (More k) =
       rw (append_assoc h (flags_header t) tail)
       (rw (append_assoc number h (flags_header t ++ tail)) at
       (flags-at (number ++ h) tail g (simp (length-append, length-bytes, actor-length) (omega arith)) t ft refl)) in
       ends-later _ start _ g (omega arith) one
-      (ends-later _ g _ (said (A.TheVariants.Is a) (Has Behind t)) (omega arith)
-      (two ∙ at-is (A.TheVariants.Is a) true t (simp (length-append, flags-length, actor-length) (omega arith)))
-      (end_of (A.TheVariants.Is a) (Has Behind t)))
+      (ends-later _ g _ (said (Some a) (Has Behind t)) (omega arith)
+      (two ∙ at-is (Some a) true t (simp (length-append, flags-length, actor-length) (omega arith)))
+      (end_of (Some a) (Has Behind t)))
 
-  size : (a : A.Actor) (e : Extra) → length (body_with e n a m payload) ≡ rest_at e a m + length payload
+  size : (a : Option ℤ) (e : Extra) → length (body_with e n a m payload) ≡ rest_at e a m + length payload
   unfolding body_with
   size a e = simp (length-append, length-bytes) (omega arith)
 
-  number-first : (a : A.Actor) (e : Extra) → SFits w64 n → le (part (body_with e n a m payload) 0 8) ≡ of_z w64 n
+  number-first : (a : Option ℤ) (e : Extra) → SFits w64 n → le (part (body_with e n a m payload) 0 8) ≡ of_z w64 n
   unfolding body_with
   number-first a e f = number_at [] 8 (of_z w64 n) (headers_of a e ++ tail) 0 refl (Fits-of_z f).fits
 
-  ended_is : (a : A.Actor) (e : Extra) (m : Bool)
+  ended_is : (a : Option ℤ) (e : Extra) (m : Bool)
       → ended (said a e) m ≡ record { at = rest_at e a m; actor = a; extra = has_extra e; timeout = timeout_in e; tl2 = m }
   unfolding marker_bytes
   ended_is a e true =
@@ -315,23 +315,23 @@ module _ (n : ℤ) (m : Bool) (payload : List ℕ) (c : payload_refused m payloa
       ap (λ (k : ℕ). record { at = k; actor = a; extra = has_extra e; timeout = timeout_in e; tl2 = false }) l
 
   -- EACH FORM READS TO WHAT IT SAYS, with a timeout of 0 as none
-  pub form-reads : (a : A.Actor) (e : Extra) → SFits w64 n → (of_z w64 n ≡ 0 → ⊥) → ActorFits a → ExtraFits e
+  pub form-reads : (a : Option ℤ) (e : Extra) → SFits w64 n → (of_z w64 n ≡ 0 → ⊥) → ActorFits a → ExtraFits e
       → read_invoke (body_with e n a m payload)
-      ≡ R.TheVariants.Invoke
+      ≡ Ok
       (invoke_with n a (effective_timeout (timeout_in e)) m (rest_at e a m) (length payload))
   form-reads a e f z fa ft =
       let s = body_with e n a m payload in
       let first = number-first a e f in
-      read_is s (N.TheVariants.Done (ended (said a e) m)) (omega (arith, size a e)) (λ x. z (sym first ∙ x))
+      read_is s (Ok (Done (ended (said a e) m))) (omega (arith, size a e)) (λ x. z (sym first ∙ x))
       (headers-read a e fa ft (length s) (omega (arith, size a e)))
-      ∙ ap (λ (x : ℕ). meaning s (to_z w64 x) (N.TheVariants.Done (ended (said a e) m))) first
-      ∙ ap (λ (x : ℤ). meaning s x (N.TheVariants.Done (ended (said a e) m))) (to_z-of_z f)
-      ∙ ap (λ (h : Headers). meaning s n (N.TheVariants.Done h)) (ended_is a e m)
-      ∙ ap (λ (k : ℕ). R.TheVariants.Invoke (invoke_with n a (effective_timeout (timeout_in e)) m (rest_at e a m) k))
+      ∙ ap (λ (x : ℕ). meaning s (to_z w64 x) (Ok (Done (ended (said a e) m)))) first
+      ∙ ap (λ (x : ℤ). meaning s x (Ok (Done (ended (said a e) m)))) (to_z-of_z f)
+      ∙ ap (λ (h : Headers). meaning s n (Ok (Done h))) (ended_is a e m)
+      ∙ ap (λ (k : ℕ). Ok (invoke_with n a (effective_timeout (timeout_in e)) m (rest_at e a m) k))
       (omega (arith, size a e))
 
   -- and the part that it names is the payload
-  rest : (a : A.Actor) (e : Extra) → drop (rest_at e a m) (body_with e n a m payload) ≡ payload
+  rest : (a : Option ℤ) (e : Extra) → drop (rest_at e a m) (body_with e n a m payload) ≡ payload
   unfolding body_with
   rest a e =
       let h : List ℕ = headers_of a e in
@@ -341,15 +341,15 @@ module _ (n : ℤ) (m : Bool) (payload : List ℕ) (c : payload_refused m payloa
       ∙ ap (λ (x : List ℕ). number ++ x) (append_assoc h (marker_bytes m) payload) in
       ap (drop (rest_at e a m)) (sym s) ∙ drop_at q payload (rest_at e a m) (simp (length-append, length-bytes))
 
-  pub form-part : (a : A.Actor) (e : Extra)
+  pub form-part : (a : Option ℤ) (e : Extra)
       → within (body_with e n a m payload) (rest_at e a m) (length payload) ≡ payload
   form-part a e =
       within-is (body_with e n a m payload) (rest_at e a m) (length payload) payload (omega (arith, size a e))
       (ap (take (length payload)) (rest a e) ∙ take_all (length payload) payload (omega arith))
 
 -- with number 0 every form is 12
-pub form-of-0 : (n : ℤ) (m : Bool) (payload : List ℕ) (a : A.Actor) (e : Extra) → SFits w64 n → of_z w64 n ≡ 0
-    → read_invoke (body_with e n a m payload) ≡ R.TheVariants.Refused 12
+pub form-of-0 : (n : ℤ) (m : Bool) (payload : List ℕ) (a : Option ℤ) (e : Extra) → SFits w64 n → of_z w64 n ≡ 0
+    → read_invoke (body_with e n a m payload) ≡ Err NumberZero
 unfolding read_invoke body_with
 form-of-0 n m payload a e f z =
     let x : List ℕ = headers_of a e ++ (marker_bytes m ++ payload) in

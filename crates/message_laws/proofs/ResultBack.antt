@@ -20,13 +20,9 @@ use Rattle.header.specs.Headers.{answer_kind, kind_of, is_header, reads_as_heade
 use Rattle.header.specs.declared.Side.TheVariants.{Client}
 use Rattle.header.specs.declared.Kind as K
 use Rattle.text.specs.TextForm.{read_text, text_bytes, text_head, text_size, head_size, pad_of}
-use Rattle.text.specs.declared.Text as T
 use Rattle.text.proofs.TextLaws.{text-length, head-length}
-use Rattle.result.specs.ReadResult.{payload_from, read_error, read_answer, after_mask, after_header, answer_from, numbered, read_result, read_old_error}
+use Rattle.result.specs.ReadResult.{payload_from, read_error, read_answer, after_mask, after_header, answer_from, read_number, numbered, read_result, read_old_error}
 use Rattle.result.specs.declared.Answer.TheVariants.{Payload, Error}
-use Rattle.result.specs.declared.Begin as B
-use Rattle.result.specs.declared.ReplyRead.{ReplyRead}
-use Rattle.result.specs.declared.ReplyRead.TheVariants as R
 use Rattle.result_out.specs.WriteResult.{payload_bytes}
 use Rattle.message.specs.ReadMessage.{of_reply, to_client, read_message}
 use Rattle.message.specs.PartOf.{answer_part, part_of}
@@ -37,10 +33,13 @@ use Rattle.message_laws.specs.Forms as S
 use Rattle.message_laws.proofs.InvokeForms.{other}
 use Rattle.message_laws.proofs.TextBack.{text-back}
 use Rattle.message_laws.proofs.Within.{within-is}
+use Rattle.std.specs.Prelude.{Result, Ok}
+use Rattle.refusal.specs.declared.Refusal.{Refusal}
+use Rattle.result.specs.declared.Reply.{Reply}
 
 -- a query number in front of x
-pub numbered-back : (n : ℤ) (x : List ℕ) (f : ℤ → ReplyRead) → SFits w64 n → (of_z w64 n ≡ 0 → ⊥) → numbered (bytes 8 (of_z w64 n) ++ x) f ≡ f n
-unfolding bytes
+pub numbered-back : (n : ℤ) (x : List ℕ) (f : ℤ → Result Reply Refusal) → SFits w64 n → (of_z w64 n ≡ 0 → ⊥) → numbered (read_number (bytes 8 (of_z w64 n) ++ x)) f ≡ f n
+unfolding bytes read_number
 numbered-back n x f fits some =
     let s : List ℕ = bytes 8 (of_z w64 n) ++ x in
     let e : le (part s 0 8) ≡ of_z w64 n = le_bytes 8 (of_z w64 n) (Fits-of_z fits).fits in
@@ -54,7 +53,7 @@ header-kind = refl
 
 -- behind a header of mask 0 the answer begins at byte 16
 pub header-passed : (n : ℤ) (x : List ℕ)
-    → after_header (bytes 8 (of_z w64 n) ++ (front_bytes Headed ++ x)) ≡ B.TheVariants.At 16
+    → after_header (bytes 8 (of_z w64 n) ++ (front_bytes Headed ++ x)) ≡ Ok 16
 unfolding bytes front_bytes after_header after_mask
 header-passed n x =
     let s : List ℕ = bytes 8 (of_z w64 n) ++ (front_bytes Headed ++ x) in
@@ -64,8 +63,8 @@ header-passed n x =
 
 -- ---- a payload
 
-abbrev pub payload_read : ℤ → List ℕ → ReplyRead
-payload_read n p = R.Reply (record { number = n; answer = Payload 8 (length p) })
+abbrev pub payload_read : ℤ → List ℕ → Result Reply Refusal
+payload_read n p = Ok (record { number = n; answer = Payload 8 (length p) })
 
 module _ (n : ℤ) (p : List ℕ) where
   payload-by : (b : Bool) → ltb (length p) 4 ≡ b → pick b false (is_header (kind_of Client (le (part p 0 4)))) ≡ false
@@ -92,8 +91,8 @@ module _ (n : ℤ) (p : List ℕ) where
   payload-part = within-is (bytes 8 (of_z w64 n) ++ p) 8 (length p) p (omega arith) (take_all (length p) p (omega arith))
 
 -- the same behind a front
-abbrev pub fronted_read : Front → ℤ → List ℕ → ReplyRead
-fronted_read h n p = R.Reply (record { number = n; answer = Payload (8 + length (front_bytes h)) (length p) })
+abbrev pub fronted_read : Front → ℤ → List ℕ → Result Reply Refusal
+fronted_read h n p = Ok (record { number = n; answer = Payload (8 + length (front_bytes h)) (length p) })
 
 pub fronted-payload-part : (h : Front) (n : ℤ) (p : List ℕ)
     → within (fronted_payload h n p) (8 + length (front_bytes h)) (length p) ≡ p
@@ -105,8 +104,8 @@ fronted-payload-part Headed n p =
 
 -- ---- an error, in each of its forms
 
-abbrev pub error_read : ℤ → ℤ → ℕ → List ℕ → ReplyRead
-error_read n code at t = R.Reply (record { number = n; answer = Error code at (length t) })
+abbrev pub error_read : ℤ → ℤ → ℕ → List ℕ → Result Reply Refusal
+error_read n code at t = Ok (record { number = n; answer = Error code at (length t) })
 
 -- a code and a text behind p, up to the end
 module _ (p : List ℕ) (n code : ℤ) (t : List ℕ) (l : length t < 16777216) where
@@ -114,7 +113,11 @@ module _ (p : List ℕ) (n code : ℤ) (t : List ℕ) (l : length t < 16777216) 
   coded = p ++ (bytes 4 (of_z w32 code) ++ text_bytes t)
 
   text_at : read_text coded (length p + 4)
-      ≡ T.TheVariants.Found (length p + 4 + head_size (length t)) (length t) (length p + 4 + (head_size (length t) + length t) + pad_of (head_size (length t) + length t))
+      ≡ Ok (record {
+        at = length p + 4 + head_size (length t);
+        len = length t;
+        next = length p + 4 + (head_size (length t) + length t) + pad_of (head_size (length t) + length t);
+      })
   text_at =
       let q : List ℕ = p ++ bytes 4 (of_z w32 code) in
       let e : length q ≡ length p + 4 = simp (length-append, length-bytes) in
@@ -235,7 +238,7 @@ module _ (n code : ℤ) (t : List ℕ) (fits : SFits w64 n) (some : of_z w64 n �
   abbrev pub FrontedRead : Front → Form → Type 0
   FrontedRead h f =
       (read_message Client (form_type f) (fronted_bytes h f n code t)
-      ≡ M.Result (record { number = n; answer = Error code (text_place h f) (length t) }))
+      ≡ Ok (M.Result (record { number = n; answer = Error code (text_place h f) (length t) })))
       × (within (fronted_bytes h f n code t) (text_place h f) (length t) ≡ t)
 
   pub fronted-read : (h : Front) (f : Form) → FrontedRead h f
@@ -280,7 +283,7 @@ module _ (n code : ℤ) (t : List ℕ) (fits : SFits w64 n) (some : of_z w64 n �
   abbrev pub FormRead : Form → Type 0
   FormRead f =
       (read_message Client (form_type f) (form_bytes f n code t)
-      ≡ M.Result (record { number = n; answer = Error code (12 + length (form_mark f) + head_size (length t)) (length t) }))
+      ≡ Ok (M.Result (record { number = n; answer = Error code (12 + length (form_mark f) + head_size (length t)) (length t) })))
       × (within (form_bytes f n code t) (12 + length (form_mark f) + head_size (length t)) (length t) ≡ t)
 
   pub form-read : (f : Form) → FormRead f

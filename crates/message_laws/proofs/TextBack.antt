@@ -10,12 +10,12 @@ use borrow.Author.Tests.{le-ltb, lt-leb, ne_eqb, ltb-true, ltb-false}
 use Rattle.wire.specs.Bytes.{le, part, bytes}
 use Rattle.wire.proofs.ByteLaws.{le_bytes, le-zeros, part-mid}
 use Rattle.text.specs.TextForm.{text_head, head_size, text_bytes, pad_of, text_after, long_text, read_text}
-use Rattle.text.specs.declared.Text.TheVariants.{Found}
+use Rattle.std.specs.Prelude.{Ok}
 
 -- the rules of the reader, one for each way to a text
 after_is : (s : List ℕ) (at head len : ℕ) → at + (head + len + pad_of (head + len)) ≤ length s
     → part s (at + (head + len)) (pad_of (head + len)) ≡ replicate (pad_of (head + len)) 0
-    → text_after s at head len ≡ Found (at + head) len (at + (head + len) + pad_of (head + len))
+    → text_after s at head len ≡ Ok (record { at = at + head; len = len; next = at + (head + len) + pad_of (head + len) })
 unfolding text_after
 after_is s at head len h e = simp (le-ltb (length s - at) (head + len + pad_of (head + len)) (omega arith), e, le-zeros)
 
@@ -35,7 +35,11 @@ byte_at p q b = ap le (part-mid p (b ∷ []) q (length p) 1 refl refl) ∙ omega
 module _ (p t q : List ℕ) where
   -- a text after a head h, with its zeros
   after-head : (h : List ℕ) (s : List ℕ) → s ≡ p ++ (h ++ (t ++ (replicate (pad_of (length h + length t)) 0 ++ q)))
-      → text_after s (length p) (length h) (length t) ≡ Found (length p + length h) (length t) (length p + (length h + length t) + pad_of (length h + length t))
+      → text_after s (length p) (length h) (length t) ≡ Ok (record {
+        at = length p + length h;
+        len = length t;
+        next = length p + (length h + length t) + pad_of (length h + length t);
+      })
   after-head h s e =
       let z : List ℕ = replicate (pad_of (length h + length t)) 0 in
       let l : length s ≡ length p + (length h + (length t + (pad_of (length h + length t) + length q))) =
@@ -46,7 +50,11 @@ module _ (p t q : List ℕ) where
 
   abbrev pub Back : Type 0
   Back = read_text (p ++ (text_bytes t ++ q)) (length p)
-      ≡ Found (length p + head_size (length t)) (length t) (length p + (head_size (length t) + length t) + pad_of (head_size (length t) + length t))
+      ≡ Ok (record {
+        at = length p + head_size (length t);
+        len = length t;
+        next = length p + (head_size (length t) + length t) + pad_of (head_size (length t) + length t);
+      })
 
   back_by : length t < 16777216 → (b : Bool) → ltb (length t) 254 ≡ b → Back
   unfolding text_bytes text_head bytes

@@ -1,6 +1,6 @@
 -- The four forms of an error (document 01: "Error values .. All four give one meaning: number, code, text"), what may
 -- stand in front of an answer inside a result, and what a message says of an error. Assumes nothing.
-use Rattle.std.specs.Prelude.{ℕ, List, [], ◌++◌, ℤ}
+use Rattle.std.specs.Prelude.{ℕ, List, [], ◌++◌, ℤ, Err, Result, Ok}
 use Rattle.std.specs.Int.{w32, w64}
 use Rattle.std.proofs.Common.{of_z}
 use Rattle.wire.specs.Bytes.{bytes}
@@ -9,6 +9,7 @@ use Rattle.message.specs.PartOf.{part_of}
 use Rattle.message.specs.declared.Message.{Message}
 use Rattle.message.specs.declared.Message.TheVariants as M
 use Rattle.result.specs.declared.Answer as A
+use Rattle.refusal.specs.declared.Refusal.{Refusal}
 
 -- reqError and wrapped inside a result, 0x7ae432f5 with any number inside a result, and the old error message
 pub data Form : Type 0 where
@@ -75,10 +76,10 @@ answer_meaning n part (A.TheVariants.Payload at len) = NoError
 answer_meaning n part (A.TheVariants.Error code at len) = Error n code part
 
 -- what a message says of an error, with its text as the part of the body s that it names
-abbrev pub error_meaning : List ℕ → Message → Meaning
-error_meaning s (M.Result r) = answer_meaning r.number (part_of s (M.Result r)) r.answer
-error_meaning s (M.Invoke i) = NoError
-error_meaning s (M.Cancel n) = NoError
-error_meaning s M.ClientFin = NoError
-error_meaning s M.ServerFin = NoError
-error_meaning s (M.Refused k) = NoError
+abbrev pub error_meaning : List ℕ → Result Message Refusal → Meaning
+error_meaning s (Ok (M.Result r)) = answer_meaning r.number (part_of s (Ok (M.Result r))) r.answer
+error_meaning s (Ok (M.Invoke i)) = NoError
+error_meaning s (Ok (M.Cancel n)) = NoError
+error_meaning s (Ok M.ClientFin) = NoError
+error_meaning s (Ok M.ServerFin) = NoError
+error_meaning s (Err k) = NoError

@@ -16,11 +16,12 @@ use Rattle.link_state.specs.declared.Link.{Link}
 use Rattle.packet_padding.specs.Padding.{pads_of, tail_of}
 use Rattle.packet_out.specs.Size.{size_of, usable_of}
 use Rattle.body.specs.Written.{bytes_after}
-use Rattle.body.specs.declared.Written.{Written}
-use Rattle.body.specs.declared.Written.TheVariants.{Size, Refused}
 use Rattle.message_out.specs.Outgoing.{body_of, number_zero, payload_misread}
 use Rattle.message_out.specs.Parts.{body_answer, without_room, placed_answer, placed_in}
 use Rattle.message_out.specs.declared.Outgoing as O
+use Rattle.refusal.specs.declared.Refusal.TheVariants.{LengthOverLimit, NumberZero, PayloadReadsAsHeader, BufferTooSmall}
+use Rattle.std.specs.Prelude.{Err, Result, Ok}
+use Rattle.refusal.specs.declared.Refusal.{Refusal}
 
 -- ---- tests
 
@@ -68,7 +69,7 @@ pub size_is : (l : Link) (len : ℕ) {zeros : ℕ} → zeros ≡ tail_of l (len 
 unfolding size_of
 size_is l len e = ap (λ (z : ℕ). len + 16 + z) e
 
-by-test : (P : Written → Type 0) (b : Bool) (u v : Written) → P u → (b ≡ false → P v) → P (pick b u v)
+by-test : (P : Result ℕ Refusal → Type 0) (b : Bool) (u v : Result ℕ Refusal) → P u → (b ≡ false → P v) → P (pick b u v)
 by-test P true u v p q = p
 by-test P false u v p q = q refl
 
@@ -76,8 +77,8 @@ module _ (l : Link) (w : O.Outgoing) (p : List ℕ) where
   -- ---- the answer
 
   no_size : (x y z u : Bool) (k : ℕ)
-      → without_room (pick x (Refused 12) (pick y (Refused 15) (pick z (Refused 2) (pick u (Refused 16) (Size k)))))
-      ≡ pick x (Refused 12) (pick y (Refused 15) (pick z (Refused 2) (Refused 16)))
+      → without_room (pick x (Err NumberZero) (pick y (Err PayloadReadsAsHeader) (pick z (Err LengthOverLimit) (pick u (Err BufferTooSmall) (Ok k)))))
+      ≡ pick x (Err NumberZero) (pick y (Err PayloadReadsAsHeader) (pick z (Err LengthOverLimit) (Err BufferTooSmall)))
   no_size true y z u k = refl
   no_size false true z u k = refl
   no_size false false true u k = refl
@@ -85,7 +86,7 @@ module _ (l : Link) (w : O.Outgoing) (p : List ℕ) where
   no_size false false false false k = refl
 
   -- under 16 bytes not even an empty body has room
-  pub answer-without-room : (n m : ℕ) {u : ℕ} {r a : Written} → u ≡ usable_of l n → u < 16 → r ≡ body_answer w p m → a ≡ without_room r → a ≡ placed_answer l w p n
+  pub answer-without-room : (n m : ℕ) {u : ℕ} {r a : Result ℕ Refusal} → u ≡ usable_of l n → u < 16 → r ≡ body_answer w p m → a ≡ without_room r → a ≡ placed_answer l w p n
   unfolding body_answer placed_answer
   answer-without-room n m g h e f =
       f ∙ ap without_room e
@@ -93,7 +94,7 @@ module _ (l : Link) (w : O.Outgoing) (p : List ℕ) where
       ∙ rw (over (length (body_of w p)), usable-test l n (length (body_of w p)), lt-ltb (usable_of l n) (length (body_of w p) + 16) (omega arith)) refl
 
   -- the part between header and checksum has 16 bytes less than what is usable of the buffer
-  pub answer-in-part : (b : List ℕ) (m : ℕ) {u : ℕ} {r : Written} → u ≡ usable_of l (length b) → 16 ≤ u → m ≡ u - 16 → r ≡ body_answer w p (length (take m (drop 12 b)))
+  pub answer-in-part : (b : List ℕ) (m : ℕ) {u : ℕ} {r : Result ℕ Refusal} → u ≡ usable_of l (length b) → 16 ≤ u → m ≡ u - 16 → r ≡ body_answer w p (length (take m (drop 12 b)))
       → r ≡ placed_answer l w p (length b)
   unfolding body_answer placed_answer
   answer-in-part b m g h k e =
@@ -105,9 +106,9 @@ module _ (l : Link) (w : O.Outgoing) (p : List ℕ) where
       in e ∙ rw (over len, t) refl
 
   -- what a size tells
-  abbrev Good : ℕ → Written → Type 0
-  Good n (Size k) = (length (body_of w p) ≡ k) × (k ≤ 16777199) × (size_of l k ≤ n)
-  Good n (Refused k) = Unit
+  abbrev Good : ℕ → Result ℕ Refusal → Type 0
+  Good n (Ok k) = (length (body_of w p) ≡ k) × (k ≤ 16777199) × (size_of l k ≤ n)
+  Good n (Err k) = Unit
 
   good : (n : ℕ) → Good n (placed_answer l w p n)
   unfolding placed_answer
@@ -117,7 +118,7 @@ module _ (l : Link) (w : O.Outgoing) (p : List ℕ) where
       by-test (Good n) (ltb 16777199 len) _ _ tt λ z. by-test (Good n) (ltb n (size_of l len)) _ _ tt λ u.
       (refl, ltb-false 16777199 len z, ltb-false n (size_of l len) u)
 
-  pub told : (n : ℕ) {r : Written} {k : ℕ} → r ≡ placed_answer l w p n → r ≡ Size k → (length (body_of w p) ≡ k) × (k ≤ 16777199) × (size_of l k ≤ n)
+  pub told : (n : ℕ) {r : Result ℕ Refusal} {k : ℕ} → r ≡ placed_answer l w p n → r ≡ Ok k → (length (body_of w p) ≡ k) × (k ≤ 16777199) × (size_of l k ≤ n)
   told n {r} {k} e f = subst (Good n) (sym e ∙ f) (good n)
 
 -- ---- the part that comes back
@@ -141,19 +142,19 @@ sets-within b a m xs h g =
 
 module _ (l : Link) (w : O.Outgoing) (p b : List ℕ) where
   -- with a body in it, or as it was
-  pub part-back : (m : ℕ) {u : ℕ} (r : Written) {y : List ℕ} → u ≡ usable_of l (length b) → 16 ≤ u → m ≡ u - 16 → r ≡ body_answer w p (length (take m (drop 12 b))) → y ≡ bytes_after r (take m (drop 12 b)) (body_of w p)
+  pub part-back : (m : ℕ) {u : ℕ} (r : Result ℕ Refusal) {y : List ℕ} → u ≡ usable_of l (length b) → 16 ≤ u → m ≡ u - 16 → r ≡ body_answer w p (length (take m (drop 12 b))) → y ≡ bytes_after r (take m (drop 12 b)) (body_of w p)
       → put_mid 12 m b y ≡ placed_in r b (body_of w p)
-  part-back m (Size k) q h i e f =
+  part-back m (Ok k) q h i e f =
       let g = told l w p (length b) (answer-in-part l w p b m q h i e) refl in
       let j = usable-fits l (length b) k g.2 in
       let t = usable-there l (length b) in
       ap (put_mid 12 m b) f ∙ sets-within b 12 m (body_of w p) (omega arith) (omega arith)
-  part-back m (Refused k) q h i e f = ap (put_mid 12 m b) f ∙ put_same 12 m b
+  part-back m (Err k) q h i e f = ap (put_mid 12 m b) f ∙ put_same 12 m b
 
 module _ (w : O.Outgoing) (p b : List ℕ) where
   -- an empty part comes back empty
-  pub nothing-back : (r a : Written) {y : List ℕ} → a ≡ without_room r → y ≡ bytes_after r [] (body_of w p) → put_mid 0 0 b y ≡ placed_in a b (body_of w p)
-  nothing-back (Size k) (Refused j) e f = ap (λ (t : List ℕ). t ++ b) (f ∙ sets-past [] 0 (body_of w p) (omega arith))
-  nothing-back (Size k) (Size j) e f = let z : ◌≡◌ {A = ℕ} 0 1 = cc in absurd (omega arith)
-  nothing-back (Refused k) (Refused j) e f = ap (λ (t : List ℕ). t ++ b) f
-  nothing-back (Refused k) (Size j) e f = let z : ◌≡◌ {A = ℕ} 0 1 = cc in absurd (omega arith)
+  pub nothing-back : (r a : Result ℕ Refusal) {y : List ℕ} → a ≡ without_room r → y ≡ bytes_after r [] (body_of w p) → put_mid 0 0 b y ≡ placed_in a b (body_of w p)
+  nothing-back (Ok k) (Err j) e f = ap (λ (t : List ℕ). t ++ b) (f ∙ sets-past [] 0 (body_of w p) (omega arith))
+  nothing-back (Ok k) (Ok j) e f = let z : ◌≡◌ {A = ℕ} 0 1 = cc in absurd (omega arith)
+  nothing-back (Err k) (Err j) e f = ap (λ (t : List ℕ). t ++ b) f
+  nothing-back (Err k) (Ok j) e f = let z : ◌≡◌ {A = ℕ} 0 1 = cc in absurd (omega arith)

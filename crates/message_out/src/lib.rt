@@ -11,16 +11,16 @@ mod place;
 mod step;
 mod write;
 
-use invoke::{Actor, Timeout};
 pub use step::message_step;
 
 // A message to send; the payload of an invoke or result, or the text of an error, goes beside it.
 #[derive(Clone, Copy)]
 pub enum Outgoing {
+    // the timeout in ms
     Invoke {
         number: i64,
-        actor: Actor,
-        timeout: Timeout,
+        actor: Option<i64>,
+        timeout: Option<u32>,
         tl2: bool,
     },
     Cancel(i64),

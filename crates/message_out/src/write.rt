@@ -5,13 +5,13 @@ ghost use Rattle.message_out.specs.Outgoing.{body_of};
 ghost use Rattle.message_out.specs.Parts.{body_answer};
 
 use crate::Outgoing;
-use body::Written;
 use cancel_out::{write_cancel, write_fin};
 use invoke_out::write_invoke;
+use refusal::Refusal;
 use result_out::{write_error, write_payload};
 
 // Writes the body at the front of d, or refuses it and leaves d as it is. A type that we never write has no body.
-pub(crate) fn write_body(d: &mut [u8], what: Outgoing, payload: &[u8]) -> Written
+pub(crate) fn write_body(d: &mut [u8], what: Outgoing, payload: &[u8]) -> Result<usize, Refusal>
     ensures { (result ≡ body_answer what payload.now (length d.old))
         × (d.new ≡ bytes_after result d.old (body_of what payload.now)) }
 {
@@ -23,10 +23,8 @@ pub(crate) fn write_body(d: &mut [u8], what: Outgoing, payload: &[u8]) -> Writte
             tl2,
         } => write_invoke(d, number, actor, timeout, tl2, payload),
         Outgoing::Cancel(number) => write_cancel(d, number),
-        Outgoing::ClientFin => write_fin(d),
         Outgoing::Payload(number) => write_payload(d, number, payload),
         Outgoing::Error { number, code } => write_error(d, number, code, payload),
-        Outgoing::ServerFin => write_fin(d),
-        Outgoing::Unknown(_) => write_fin(d),
+        Outgoing::ClientFin | Outgoing::ServerFin | Outgoing::Unknown(_) => write_fin(d),
     }
 }

@@ -11,37 +11,39 @@ use Rattle.wire.specs.Bytes.{within}
 use Rattle.wire.specs.Choice.{pick}
 use Rattle.link_state.specs.declared.Link.{Link}
 use Rattle.link_state.specs.declared.Moment.{Moment}
-use Rattle.opening.specs.Nonce.{least_of, version_at, nonce_refusal}
+use Rattle.opening.specs.Nonce.{least_of, version_at, check_nonce}
 use Rattle.nonce_out.specs.Nonce.{nonce_body}
 use Rattle.nonce_out.proofs.BodyLaws.{length-nonce, nonce-version, nonce-time, nonce-random, nonce-point}
 use Rattle.nonce_in.specs.declared.NonceFields.{NonceFields}
-use Rattle.nonce_in.specs.declared.NonceRead.TheVariants.{Fields, Refused}
 use Rattle.nonce_in.specs.Fields.{point_place, fields_of, nonce_of}
+use Rattle.refusal.specs.declared.Refusal.TheVariants.{OpeningShort}
+use Rattle.refusal.specs.declared.Refusal.{Refusal}
+use Rattle.std.specs.Prelude.{Result, Ok, Err, ⊤}
 
 -- a body that is long enough is read
-long-read : (b : List ℕ) → least_of (version_at b) ≤ length b → nonce_of b ≡ Fields (fields_of b)
+long-read : (b : List ℕ) → least_of (version_at b) ≤ length b → nonce_of b ≡ Ok (fields_of b)
 unfolding nonce_of
 long-read b h = rw (le-ltb (length b) (least_of (version_at b)) h)
 
 -- ACCEPTED, THEN READ: no Nonce that a receive call accepts is refused here
-pub accepted-read : (l : Link) (b : List ℕ) (m : Moment) → nonce_refusal l b m ≡ 0
-    → nonce_of b ≡ Fields (fields_of b)
-unfolding nonce_refusal
+pub accepted-read : (l : Link) (b : List ℕ) (m : Moment) → check_nonce l b m ≡ Ok tt
+    → nonce_of b ≡ Ok (fields_of b)
+unfolding check_nonce
 accepted-read l b m e = go (ltb (length b) (least_of (version_at b))) _ refl e
   where
-    go : (x : Bool) (n : ℕ) → ltb (length b) (least_of (version_at b)) ≡ x → pick x 7 n ≡ 0
-        → nonce_of b ≡ Fields (fields_of b)
-    go true n q z = absurd (omega (arith, z))
+    go : (x : Bool) (n : Result ⊤ Refusal) → ltb (length b) (least_of (version_at b)) ≡ x
+        → pick x (Err OpeningShort) n ≡ Ok tt → nonce_of b ≡ Ok (fields_of b)
+    go true n q e = cc
     go false n q z = long-read b (ltb-false (length b) (least_of (version_at b)) q)
 
 -- what an answer says of the body
-took : (b : List ℕ) (f : NonceFields) → nonce_of b ≡ Fields f → (f ≡ fields_of b) × (least_of (version_at b) ≤ length b)
+took : (b : List ℕ) (f : NonceFields) → nonce_of b ≡ Ok f → (f ≡ fields_of b) × (least_of (version_at b) ≤ length b)
 unfolding nonce_of
 took b f = go (ltb (length b) (least_of (version_at b))) refl
   where
-    go : (x : Bool) → ltb (length b) (least_of (version_at b)) ≡ x → pick x (Refused 7) (Fields (fields_of b)) ≡ Fields f
+    go : (x : Bool) → ltb (length b) (least_of (version_at b)) ≡ x → pick x (Err OpeningShort) (Ok (fields_of b)) ≡ Ok f
         → (f ≡ fields_of b) × (least_of (version_at b) ≤ length b)
-    go true q e = let z : ◌≡◌ {A = ℕ} 0 1 = cc in absurd (omega arith)
+    go true q e = cc
     go false q e = let g : f ≡ fields_of b = cc in (g, ltb-false (length b) (least_of (version_at b)) q)
 
 fit : (version n : ℕ) → least_of version ≤ n → (28 ≤ n) × ((point_place version).at + (point_place version).len ≤ n)
@@ -53,7 +55,7 @@ fit version n = go (ltb version 2)
     go false h = (omega arith, omega arith)
 
 -- HELD: the places that are named lie in the body, so that all their bytes are there
-pub places-held : (b : List ℕ) (f : NonceFields) → nonce_of b ≡ Fields f
+pub places-held : (b : List ℕ) (f : NonceFields) → nonce_of b ≡ Ok f
     → (f.random.at + f.random.len ≤ length b) × (f.point.at + f.point.len ≤ length b)
 unfolding fields_of
 places-held b f e = rw (took b f e).0 (fit (version_at b) (length b) (took b f e).1)
@@ -73,7 +75,7 @@ module _ (k e version time : ℕ) (random point : List ℕ) (v : version < 256) 
   body = nonce_body k e version time random point
 
   pub nonce-back : nonce_of body
-      ≡ Fields (record {
+      ≡ Ok (record {
         version = version;
         time = time;
         random = record { at = 12; len = 16 };

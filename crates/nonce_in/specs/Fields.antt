@@ -1,13 +1,13 @@
 -- What a derivation needs of a Nonce (document 01, "Opening": "Nonce body: KeyID 4, encryption 1, version 1, flags 2,
 -- time 4, random 16, DH point 32"). Assumes nothing.
-use Rattle.std.specs.Prelude.{ℕ, List, [], ◌∷◌, length, ltb}
+use Rattle.std.specs.Prelude.{ℕ, List, [], ◌∷◌, length, ltb, Result, Ok, Err}
 use Rattle.wire.specs.Bytes.{le, part}
 use Rattle.wire.specs.Choice.{pick, first}
 use Rattle.opening.specs.Nonce.{least_of, version_at}
 use Rattle.nonce_in.specs.declared.Place.{Place}
 use Rattle.nonce_in.specs.declared.NonceFields.{NonceFields}
-use Rattle.nonce_in.specs.declared.NonceRead.{NonceRead}
-use Rattle.nonce_in.specs.declared.NonceRead.TheVariants.{Fields, Refused}
+use Rattle.refusal.specs.declared.Refusal.{Refusal}
+use Rattle.refusal.specs.declared.Refusal.TheVariants.{OpeningShort}
 
 -- a Nonce has a DH point from version 2 on: those before end with the random bytes, and "anything after is ignored"
 unfoldable pub point_place : ℕ → Place
@@ -23,5 +23,5 @@ fields_of b =
     }
 
 -- 7 for a short body, by the rule of a receive call: "At least 28 bytes, and at least 60 if the version is 2 or more"
-unfoldable pub nonce_of : List ℕ → NonceRead
-nonce_of b = first ((ltb (length b) (least_of (version_at b)), Refused 7) ∷ []) (Fields (fields_of b))
+unfoldable pub nonce_of : List ℕ → Result NonceFields Refusal
+nonce_of b = first ((ltb (length b) (least_of (version_at b)), Err OpeningShort) ∷ []) (Ok (fields_of b))

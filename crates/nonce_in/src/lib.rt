@@ -26,10 +26,3 @@ pub struct NonceFields {
     // no bytes below version 2
     pub point: Place,
 }
-
-// The fields, or a refusal's number.
-#[derive(Clone, Copy)]
-pub enum NonceRead {
-    Fields(NonceFields),
-    Refused(u8),
-}

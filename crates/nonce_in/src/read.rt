@@ -2,21 +2,23 @@
 ghost use Rattle.std.specs.Prelude.{◌≡◌};
 ghost use Rattle.nonce_in.specs.Fields.{point_place, fields_of, nonce_of};
 
-use super::{NonceFields, NonceRead, Place};
+use super::{NonceFields, Place};
 use opening::least;
-use refusal::OPENING_SHORT;
+use refusal::Refusal;
 use wire::{u8_at, u32_at};
 
 // Where the DH point stands: from version 2 on, behind the random bytes.
+#[tactic(auto, unfolding(crate::specs::Fields::point_place))]
 fn point(version: u8) -> Place
     ensures { result ≡ point_place version }
 {
-    if version < 2 {
-        return Place { at: 28, len: 0 };
+    Place {
+        at: 28,
+        len: if version < 2 { 0 } else { 32 },
     }
-    Place { at: 28, len: 32 }
 }
 
+#[tactic(auto, unfolding(crate::specs::Fields::fields_of))]
 fn fields(b: &[u8]) -> NonceFields
     ensures { result ≡ fields_of b.now }
 {
@@ -30,11 +32,12 @@ fn fields(b: &[u8]) -> NonceFields
 }
 
 // The fields of a Nonce with this body, or 7 where it is short.
-pub fn nonce_fields(b: &[u8]) -> NonceRead
+#[tactic(auto, unfolding(crate::specs::Fields::nonce_of))]
+pub fn nonce_fields(b: &[u8]) -> Result<NonceFields, Refusal>
     ensures { result ≡ nonce_of b.now }
 {
     if b.len() < least(u8_at(b, 5)) {
-        return NonceRead::Refused(OPENING_SHORT);
+        return Err(Refusal::OpeningShort);
     }
-    NonceRead::Fields(fields(b))
+    Ok(fields(b))
 }

@@ -12,7 +12,7 @@ use Rattle.wire.specs.Choice.{pick}
 use Rattle.link_state.specs.declared.Link.{Link}
 use Rattle.link_state.specs.declared.Moment.{Moment}
 use Rattle.packet_out.specs.Packet.{packet_of}
-use Rattle.packet_out.specs.declared.Sent.TheVariants.{Written}
+use Rattle.std.specs.Prelude.{Ok}
 use Rattle.packet_out.proofs.PacketLaws.{length-packet}
 use Rattle.send_rules.specs.Control.{control_answer, control_step, buffer_by, control_buffer}
 use Rattle.send_rules.proofs.ControlLaws.{step-answer, fits}
@@ -30,11 +30,11 @@ small-version l = go l.set.server (ltb l.version 2) refl
     go false x q = omega arith
 
 module _ (l : Link) (drawn : Drawn) (b : List ℕ) (m : Moment) (n : ℕ) (e : (nonce_step l drawn m (length b)).answer
-    ≡ Written n) where
+    ≡ Ok n) where
   abbrev ours : List ℕ
   ours = our_nonce l drawn m
 
-  pub nonce-answered : control_answer l 0x7acb87aa false (length ours) (length b) ≡ Written n
+  pub nonce-answered : control_answer l 0x7acb87aa false (length ours) (length b) ≡ Ok n
   unfolding nonce_step control_step
   nonce-answered = sym (step-answer l 0x7acb87aa 0 (control_answer l 0x7acb87aa false (length ours) (length b))) ∙ e
 

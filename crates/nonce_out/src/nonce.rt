@@ -8,27 +8,24 @@ use crate::Drawn;
 use link_cipher::{encryption, key_id, offers_or_takes};
 use link_state::{Link, Moment, OUR_VERSION};
 use packet::NONCE;
-use packet_out::{Sent, seal};
-use send_rules::{Step, control_answer, sent};
+use send_rules::{Step, control_step};
 use store::{put_u8, put_u16, put_u32};
 use store_bytes::copy;
 
 // The version that we write: a server's is no higher than the client's.
+#[tactic(auto, unfolding(crate::specs::Nonce::version_of))]
 fn version(link: Link) -> u8
     ensures { result ≡ version_of link }
 {
     if link.set.server {
-        if link.version < OUR_VERSION {
-            link.version
-        } else {
-            OUR_VERSION
-        }
+        link.version.min(OUR_VERSION)
     } else {
         OUR_VERSION
     }
 }
 
 // The DH point that we write.
+#[tactic(auto, unfolding(link_cipher::specs::Offered::sent_point))]
 fn point(link: Link, card: [u8; 32]) -> [u8; 32]
     ensures { result ≡ sent_point link card }
 {
@@ -57,11 +54,8 @@ fn put_nonce(buf: &mut [u8], link: Link, drawn: Drawn, moment: Moment)
         version(link),
         moment.time,
     );
-    let random = drawn.random;
-    copy(buf, 24, &random);
-    let card = drawn.point;
-    let written = point(link, card);
-    copy(buf, 40, &written);
+    copy(buf, 24, &drawn.random);
+    copy(buf, 40, &point(link, drawn.point));
 }
 
 // Our Nonce, with the caller's time, random bytes and point.
@@ -69,19 +63,7 @@ pub fn nonce_step(link: Link, buf: &mut [u8], drawn: Drawn, moment: Moment) -> S
     ensures { (result ≡ nonce_step link drawn moment (length buf.old))
         × (buf.new ≡ nonce_buffer link drawn moment buf.old) }
 {
-    let answer = control_answer(link, NONCE, false, 60, buf.len());
-    match answer {
-        Sent::Refused(k) => Step {
-            link,
-            answer: Sent::Refused(k),
-        },
-        Sent::Written(n) => {
-            put_nonce(buf, link, drawn, moment);
-            seal(buf, link, NONCE, 60);
-            Step {
-                link: sent(link, NONCE, 0, n),
-                answer: Sent::Written(n),
-            }
-        }
-    }
+    control_step(link, buf, NONCE, false, 0, 60, |b| {
+        put_nonce(b, link, drawn, moment);
+    })
 }

@@ -11,7 +11,3 @@ allowed_of l kind =
     (ltb l.stage 4, eqb kind 0x7682eef5) ∷
     []
     ) (not (eqb kind 0x7acb87aa) && not (eqb kind 0x7682eef5))
-
--- a refusal's number that is one
-abbrev pub refuses : ℕ → Bool
-refuses k = not (eqb k 0)

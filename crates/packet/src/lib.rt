@@ -28,6 +28,4 @@ pub enum Arrival {
         at: usize,
         len: usize,
     },
-    // a refusal's number
-    Refused(u8),
 }

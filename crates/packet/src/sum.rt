@@ -5,10 +5,11 @@ ghost use Rattle.packet.specs.Sum.{castagnoli_of, sum_as, sum_of};
 use link_state::Link;
 
 // Whether packets go under CRC-32C now: both Handshakes still go under CRC-32.
+#[tactic(auto, unfolding(crate::specs::Sum::castagnoli_of))]
 fn castagnoli(link: Link) -> bool
     ensures { result ≡ castagnoli_of link }
 {
-    if link.crc32c { 4 <= link.stage } else { false }
+    link.crc32c && 4 <= link.stage
 }
 
 fn checksum_as(agreed: bool, bytes: &[u8]) -> u32
@@ -23,6 +24,7 @@ fn checksum_as(agreed: bool, bytes: &[u8]) -> u32
 
 // The checksum that a packet with these bytes before it bears on the link now. The sum is another function, without the
 // link, so that this one is small and no call of it copies the link.
+#[tactic(auto, unfolding(crate::specs::Sum::sum_of))]
 pub fn checksum_of(link: Link, bytes: &[u8]) -> u32
     ensures { result ≡ sum_of link bytes.now }
 {

@@ -4,7 +4,7 @@ use borrow.Author.Tests.{leb-true}
 use mathlib.Core.Path.{◌≡◌, refl, ap, ◌∙◌}
 use mathlib.Core.Bool.{Bool, true, false, not, ◌&&◌}
 use mathlib.Core.List.{List}
-use Prim.Native.Nat.{ℕ, ◌+◌, ◌-◌, ◌*◌, ◌≤◌}
+use Prim.Native.Nat.{ℕ, ◌+◌, ◌-◌, ◌*◌, ◌<◌, ◌≤◌}
 use lib.ListN.{length, take, drop, length-take}
 use lib.Seq.{take_all}
 use lib.Dec.{leb, eqb}
@@ -21,7 +21,7 @@ word-long s at h = go (leb (at + 4) (length s)) (eqb (le (part s at 4)) 4) refl 
   where
     go : (a b : Bool) → leb (at + 4) (length s) ≡ a → not (a && b) ≡ false → at + 4 ≤ length s
     go true b e g = leb-true (at + 4) (length s) e
-    go false b e g = let z : ◌≡◌ {A = ℕ} 0 1 = cc in absurd (omega arith)
+    go false b e g = cc
 
 words-fit : (l : Link) (s : List ℕ) → words_of l s * 4 ≤ length s
 unfolding words_of
@@ -42,6 +42,10 @@ words-few l s =
     by_row P (not (word_at s 4)) 1 _ (λ e. omega arith) λ e4.
     by_row P (not (word_at s 8)) 2 _ (λ e. omega arith) λ e8.
     by_row P (not (word_at s 12)) 3 4 (λ e. omega arith) λ e12. omega arith
+
+-- so many stand in front
+abbrev pub AllWords : List ℕ → ℕ → Type 0
+AllWords s n = (k : ℕ) → k < n → word_at s (k * 4) ≡ true
 
 -- they are there, and few
 pub words-bound : (l : Link) (s : List ℕ) (r : ℕ) → r ≡ words_of l s → (r ≤ 4) × (r * 4 ≤ length s)

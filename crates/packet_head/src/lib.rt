@@ -1,12 +1,12 @@
 // What stands before a packet's body: which length, number and type are refused, and on a padded link the words in
 // front.
 //
-// `length_refusal` and `head_refusal` give a refusal's number, or 0; `words::words` counts the words. Nothing here
-// waits for bytes, reads a body or changes a link. How they make one answer, with the checksum and the zeros behind
-// it, is in the crate `packet_in`.
+// `check_length` and `check_head` refuse or let pass; `words::words` counts the words. Nothing here waits for bytes,
+// reads a body or changes a link. How they make one answer, with the checksum and the zeros behind it, is in the crate
+// `packet_in`.
 #![tactic(auto)]
 
 mod head;
 pub mod words;
 
-pub use head::{head_refusal, length_refusal};
+pub use head::{check_head, check_length};

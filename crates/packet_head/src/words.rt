@@ -7,35 +7,26 @@ use packet_padding::words_allowed;
 use wire::u32_at;
 
 // Whether a word of value 4 stands at an offset.
+#[tactic(auto, unfolding(crate::specs::Words::word_at))]
 fn word(bytes: &[u8], at: usize) -> bool
     requires { at ≤ 12 }
     ensures { result ≡ word_at bytes.now at }
 {
-    if at + 4 <= bytes.len() {
-        u32_at(bytes, at) == 4
-    } else {
-        false
-    }
+    at + 4 <= bytes.len() && u32_at(bytes, at) == 4
 }
 
 // How many of them stand in front, where they may; 4 where there are more than three.
+#[tactic(auto, unfolding(crate::specs::Words::words_of))]
 pub fn words(link: Link, bytes: &[u8]) -> usize
     ensures { result ≡ words_of link bytes.now }
 {
     if words_allowed(link) == 0 {
         return 0;
     }
-    if !word(bytes, 0) {
-        return 0;
-    }
-    if !word(bytes, 4) {
-        return 1;
-    }
-    if !word(bytes, 8) {
-        return 2;
-    }
-    if !word(bytes, 12) {
-        return 3;
+    for i in 0..4 {
+        if !word(bytes, i * 4) {
+            return i;
+        }
     }
     4
 }

@@ -2,13 +2,13 @@
 use native.Mathlib.Omega.{arith}
 use mathlib.Core.Path.{◌≡◌, refl, ap, sym, ◌∙◌}
 use mathlib.Core.List.{List, [], ◌∷◌, ◌++◌, append_assoc}
-use Prim.Native.Nat.{ℕ, suc, ◌+◌, ◌≤◌, ◌<◌}
+use Prim.Native.Nat.{ℕ, suc, ◌+◌, ◌≤◌}
 use native.Mathlib.Nat.{add-suc, suc-add}
-use lib.ListN.{length, take, drop, set, replicate, length-append, length-take, length-drop, length-replicate, take-append-drop}
+use lib.ListN.{length, take, drop, set, length-append, length-take, length-drop, length-replicate, take-append-drop}
 use lib.Seq.{sets, take_at, drop-drop, drop-set-lt}
 use Rattle.wire.specs.Bytes.{part, bytes}
 use Rattle.wire.proofs.ByteLaws.{length-bytes}
-use Rattle.wire.proofs.StoreLaws.{runs-2, runs-3, front-stored}
+use Rattle.wire.proofs.StoreLaws.{runs-3, front-stored}
 use Rattle.link_state.specs.declared.Link.{Link}
 use Rattle.packet_out.specs.Size.{size_of}
 use Rattle.packet_out.specs.Packet.{head_of, front_of, packet_of}
@@ -32,27 +32,6 @@ pub head-stored : {b1 b2 b3 : List ℕ} (b : List ℕ) (x y z : ℕ) → b1 ≡ 
     → b3 ≡ sets b 0 (head_of x y z)
 unfolding head_of
 head-stored b x y z e1 e2 e3 = runs-3 b 0 4 8 (bytes 4 x) (bytes 4 y) (bytes 4 z) e1 e2 e3 (rw length-bytes refl) (rw length-bytes refl)
-
--- no zero, one, two, three
-pub no-zeros : (b : List ℕ) (at n : ℕ) → n < 1 → b ≡ sets b at (replicate n 0)
-no-zeros b at n h = let e : 0 ≡ n = omega arith in ap (λ (k : ℕ). sets b at (replicate k 0)) e
-
-pub zeros-1 : {b1 : List ℕ} (b : List ℕ) (at n : ℕ) → 1 ≤ n → n < 2 → b1 ≡ sets b at (bytes 1 0) → b1 ≡ sets b at (replicate n 0)
-unfolding bytes
-zeros-1 b at n g h e1 = let e : 1 ≡ n = omega arith in e1 ∙ ap (λ (k : ℕ). sets b at (replicate k 0)) e
-
-pub zeros-2 : {b1 b2 : List ℕ} (b : List ℕ) (at n : ℕ) → 2 ≤ n → n < 3 → b1 ≡ sets b at (bytes 1 0) → b2 ≡ sets b1 (at + 1) (bytes 1 0) → b2 ≡ sets b at (replicate n 0)
-unfolding bytes
-zeros-2 b at n g h e1 e2 =
-    let e : 2 ≡ n = omega arith in
-    runs-2 b at (at + 1) (bytes 1 0) (bytes 1 0) e1 e2 refl ∙ ap (λ (k : ℕ). sets b at (replicate k 0)) e
-
-pub zeros-3 : {b1 b2 b3 : List ℕ} (b : List ℕ) (at n : ℕ) → 3 ≤ n → n ≤ 3 → b1 ≡ sets b at (bytes 1 0) → b2 ≡ sets b1 (at + 1) (bytes 1 0) → b3 ≡ sets b2 (at + 2) (bytes 1 0)
-    → b3 ≡ sets b at (replicate n 0)
-unfolding bytes
-zeros-3 b at n g h e1 e2 e3 =
-    let e : 3 ≡ n = omega arith in
-    runs-3 b at (at + 1) (at + 2) (bytes 1 0) (bytes 1 0) (bytes 1 0) e1 e2 e3 refl (omega arith) ∙ ap (λ (k : ℕ). sets b at (replicate k 0)) e
 
 pub take-front : (b xs : List ℕ) (n : ℕ) → length xs ≡ n → n ≤ length b → take n (sets b 0 xs) ≡ xs
 take-front b xs n e h = ap (take n) (front-stored b xs (omega arith)) ∙ take_at xs (drop (length xs) b) n e

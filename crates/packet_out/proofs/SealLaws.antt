@@ -2,10 +2,11 @@
 use native.Mathlib.Omega.{arith}
 use borrow.Author.Tests.{le-ltb}
 use mathlib.Core.Path.{◌≡◌, refl, ap, sym, ◌∙◌}
-use mathlib.Core.List.{List, ◌++◌}
-use Prim.Native.Nat.{ℕ, ◌+◌, ◌≤◌}
-use lib.ListN.{length, take, drop, replicate, length-take, length-drop}
-use lib.Seq.{sets, length-sets}
+use mathlib.Core.List.{List, ◌++◌, append_assoc}
+use Prim.Native.Nat.{ℕ, ◌+◌, ◌-◌, ◌≤◌}
+use lib.ListN.{length, take, drop, replicate, length-take, length-drop, length-replicate}
+use lib.Seq.{sets, sets-eq, drop-drop, length-sets}
+use borrow.Rule.Slice.PartMut.{put_mid}
 use Rattle.wire.specs.Bytes.{part, bytes}
 use Rattle.wire.proofs.ByteLaws.{length-bytes, part-sets}
 use Rattle.wire.proofs.StoreLaws.{runs-3, front-stored}
@@ -20,6 +21,21 @@ use Rattle.packet_out.proofs.PacketLaws.{length-head, length_front, length-packe
 pub room : (l : Link) (len : ℕ) (n : ℕ) {size : ℕ} → size ≡ size_of l len → size ≤ n → len + 16 ≤ n
 unfolding size_of
 room l len n e h = omega arith
+
+-- what it counts behind the checksum
+pub behind : (l : Link) (len : ℕ) {size : ℕ} → size ≡ size_of l len → size - (len + 16) ≡ tail_of l (len + 16)
+unfolding size_of
+behind l len e = omega arith
+
+-- a part that is filled is a run of stores
+pub filled : (d : List ℕ) (at n m x : ℕ) {part : List ℕ} → m ≡ n → part ≡ replicate (length (take m (drop at d))) x → at + n ≤ length d
+    → put_mid at m d part ≡ sets d at (replicate n x)
+filled d at n m x em ep h =
+    let t : List ℕ = replicate n x in
+    let l : length t ≡ n = length-replicate n x in
+    let k : length (take m (drop at d)) ≡ n = simp (length-take, length-drop) (omega arith) in
+    rw (ep, k, em) (ap (λ (k : List ℕ). take at d ++ (t ++ k)) (drop-drop n at d)
+    ∙ sym (rw l at (sets-eq t d at (rw l h)) ∙ append_assoc (take at d) t (drop (at + n) d)))
 
 module _ (l : Link) (kind len : ℕ) (b : List ℕ) (fits : len + 16 ≤ length b) where
   abbrev body : List ℕ

@@ -2,8 +2,8 @@
 // the zeros that follow it on a padded link.
 //
 // One writer, `seal`, closes every packet, whatever its body; a new packet costs its body's writer only. Nothing is
-// stored where the packet does not fit, and bytes past the packet stay. The type that matters is `Sent`. Which packet
-// a link may send is the crate `send_rules`.
+// stored where the packet does not fit, and bytes past the packet stay. Which packet a link may send is the crate
+// `send_rules`.
 #![tactic(auto)]
 
 mod sealing;
@@ -11,10 +11,3 @@ mod size;
 
 pub use sealing::seal;
 pub use size::{size_or_refusal, usable};
-
-// How many bytes the packet takes at the front of the buffer, or a refusal's number: then no byte was written.
-#[derive(Clone, Copy)]
-pub enum Sent {
-    Written(usize),
-    Refused(u8),
-}

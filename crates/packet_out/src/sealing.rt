@@ -1,13 +1,12 @@
 // Header, checksum and zeros, around a body that is there already.
-ghost use Rattle.std.specs.Prelude.{◌≡◌, ◌≤◌, replicate};
+ghost use Rattle.std.specs.Prelude.{◌≡◌};
 ghost use Rattle.std.proofs.lemmas.List.Edits.{sets};
 ghost use Rattle.packet_out.specs.Packet.{head_of, sealed_of};
 
 use crate::size::{LONGEST_BODY, size_of};
 use link_state::Link;
 use packet::checksum_of;
-use packet_padding::tail;
-use store::{put_u8, put_u32};
+use store::put_u32;
 
 fn put_head(buf: &mut [u8], size: u32, number: u32, kind: u32)
     ensures { buf.new ≡ sets buf.old 0 (head_of size number kind) }
@@ -17,38 +16,21 @@ fn put_head(buf: &mut [u8], size: u32, number: u32, kind: u32)
     put_u32(buf, 8, kind);
 }
 
-// So many zeros, up to three, from at on.
-fn put_zeros(buf: &mut [u8], at: usize, n: usize)
-    requires { (n ≤ 3) × (at ≤ 16777215) }
-    ensures { buf.new ≡ sets buf.old at (replicate n 0) }
-{
-    if n < 1 {
-        return;
-    }
-    put_u8(buf, at, 0);
-    if n < 2 {
-        return;
-    }
-    put_u8(buf, at + 1, 0);
-    if n < 3 {
-        return;
-    }
-    put_u8(buf, at + 2, 0);
-}
-
 // Seals the packet of this type whose body is the len bytes from byte 12 on; where it does not fit, nothing is stored.
+#[tactic(auto, unfolding(crate::specs::Packet::sealed_of))]
 pub fn seal(buf: &mut [u8], link: Link, kind: u32, len: usize)
     ensures { buf.new ≡ sealed_of link kind len buf.old }
 {
     if LONGEST_BODY < len {
         return;
     }
-    if buf.len() < size_of(link, len) {
+    let size = size_of(link, len);
+    if buf.len() < size {
         return;
     }
     let front = len + 12;
     put_head(buf, (len + 16) as u32, link.sends, kind);
     let sum = checksum_of(link, &buf[..front]);
     put_u32(buf, front, sum);
-    put_zeros(buf, len + 16, tail(link, len + 16));
+    buf[len + 16..size].fill(0);
 }

@@ -14,15 +14,14 @@ use Rattle.wire.proofs.ByteLaws.{length-bytes}
 use Rattle.link_state.specs.declared.Link.{Link}
 use Rattle.link_state.specs.declared.Moment.{Moment}
 use Rattle.link_state.specs.Turn.{may_send}
-use Rattle.packet.specs.Allowed.{allowed_of, refuses}
+use Rattle.packet.specs.Allowed.{allowed_of}
 use Rattle.packet.specs.declared.Arrival.TheVariants.{Packet}
 use Rattle.packet_out.specs.Size.{size_of, fits_of}
-use Rattle.packet_out.specs.declared.Sent.TheVariants.{Written, Refused}
-use Rattle.link_next.specs.KeepAlive.{ping_refusal, pong_refusal, awaits_after, owes_after, owed_after}
+use Rattle.link_next.specs.KeepAlive.{check_ping, check_pong, awaits_after, owes_after, owed_after}
 use Rattle.link_next.specs.Next.{after_of}
-use Rattle.link.specs.Receive.{body_refusal, gives, receive_of}
+use Rattle.link.specs.Receive.{check_body, gives, receive_of}
 use Rattle.send_rules.specs.Sent.{awaits_sent, awaited_sent, owes_sent, sent_of}
-use Rattle.send_rules.specs.Control.{send_refusal, control_answer}
+use Rattle.send_rules.specs.Control.{check_send, control_answer}
 use Rattle.keep_alive_out.specs.KeepAlive.{ping_buffer, pong_buffer}
 use Rattle.pair.specs.Opens.{Choices, made_of, both_of, Meet, open_of, Caller, Able, Opened, opens}
 use Rattle.pair.specs.KeepAlive.{Owing, Alive}
@@ -31,17 +30,19 @@ use Rattle.pair.proofs.SentReceived.{sent-received}
 use Rattle.pair.proofs.StepAlike.{stays, awaits-again, awaits-still}
 use Rattle.pair.proofs.KeepAlive.{id-read, length-24, ping-allowed, pong-allowed}
 use Rattle.pair.proofs.Opening.{opened, each-awaits}
+use Rattle.std.specs.Prelude.{Err, Ok, ⊤}
+use Rattle.refusal.specs.declared.Refusal.TheVariants.{LinkClosed, NotOurTurn, TypeNotAllowed, PingOutOfTurn}
+use Rattle.std.specs.Result.{result_and}
 
 -- ---- a send that is accepted was in turn
 
-not-busy : (l : Link) (kind : ℕ) (busy : Bool) (len room n : ℕ) → control_answer l kind busy len room ≡ Written n → busy ≡ false
-unfolding control_answer send_refusal
+not-busy : (l : Link) (kind : ℕ) (busy : Bool) (len room n : ℕ) → control_answer l kind busy len room ≡ Ok n → busy ≡ false
+unfolding control_answer check_send
 not-busy l kind busy len room n e = go l.closed (not (may_send l.set.server l.stage)) (not (allowed_of l kind)) busy e
   where
     go : (c s a b : Bool)
-        → pick (refuses (pick c 20 (pick s 22 (pick a 5 (pick b 21 0)))))
-        (Refused (pick c 20 (pick s 22 (pick a 5 (pick b 21 0)))))
-        (fits_of l len room) ≡ Written n
+        → result_and {T = ⊤} (pick c (Err LinkClosed) (pick s (Err NotOurTurn) (pick a (Err TypeNotAllowed) (pick b (Err PingOutOfTurn) (Ok tt)))))
+        (fits_of l len room) ≡ Ok n
         → b ≡ false
     go c s a false h = refl
     go true s a true h = cc
@@ -88,10 +89,10 @@ module _ (l k : Link) (a : Alive l k) (m : Moment) where
 
   -- a Ping that is written is received
   module _ (id : ℕ) (fits : id < 2 ^ 64) (b : List ℕ) (n : ℕ)
-      (e : control_answer l 0x5730a2df l.awaits (length (bytes 8 id)) (length b) ≡ Written n) where
+      (e : control_answer l 0x5730a2df l.awaits (length (bytes 8 id)) (length b) ≡ Ok n) where
     pub ping-arrives : receive_of k (ping_buffer l id b) m
-        ≡ gives (after_of k 0x5730a2df (bytes 8 id) m) (Packet 0x5730a2df (size_of l (length (bytes 8 id))) 12 (length (bytes 8 id)))
-    unfolding ping_buffer body_refusal ping_refusal
+        ≡ gives (after_of k 0x5730a2df (bytes 8 id) m) (Ok (Packet 0x5730a2df (size_of l (length (bytes 8 id))) 12 (length (bytes 8 id))))
+    unfolding ping_buffer check_body check_ping
     ping-arrives =
         let free : k.owes ≡ false = a.owing_k.turn ∙ not-busy l 0x5730a2df l.awaits (length (bytes 8 id)) (length b) n e in
         let eight : length (bytes 8 id) ≡ 8 = length-bytes 8 id in
@@ -107,10 +108,10 @@ module _ (l k : Link) (a : Alive l k) (m : Moment) where
 
   -- and so is a Pong
   module _ (b : List ℕ) (n : ℕ)
-      (e : control_answer l 0x8430eaa7 (not l.owes) (length (bytes 8 l.owed)) (length b) ≡ Written n) where
+      (e : control_answer l 0x8430eaa7 (not l.owes) (length (bytes 8 l.owed)) (length b) ≡ Ok n) where
     pub pong-arrives : receive_of k (pong_buffer l b) m
-        ≡ gives (after_of k 0x8430eaa7 (bytes 8 l.owed) m) (Packet 0x8430eaa7 (size_of l (length (bytes 8 l.owed))) 12 (length (bytes 8 l.owed)))
-    unfolding pong_buffer body_refusal pong_refusal
+        ≡ gives (after_of k 0x8430eaa7 (bytes 8 l.owed) m) (Ok (Packet 0x8430eaa7 (size_of l (length (bytes 8 l.owed))) 12 (length (bytes 8 l.owed))))
+    unfolding pong_buffer check_body check_pong
     pong-arrives =
         let owes : l.owes ≡ true = not-false l.owes (not-busy l 0x8430eaa7 (not l.owes) (length (bytes 8 l.owed)) (length b) n e) in
         let waits : k.awaits ≡ true = sym a.owing_l.turn ∙ owes in

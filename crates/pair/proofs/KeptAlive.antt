@@ -19,18 +19,20 @@ use Rattle.packet_padding.specs.Padding.{pads_of, tail_of}
 use Rattle.packet.specs.declared.Arrival.TheVariants.{Packet}
 use Rattle.packet_out.specs.Packet.{packet_of}
 use Rattle.packet_out.specs.Size.{size_of, fits_of}
-use Rattle.packet_out.specs.declared.Sent.TheVariants.{Written}
 use Rattle.packet_out.proofs.PacketLaws.{length-packet}
-use Rattle.link.specs.Look.{turn_refusal}
+use Rattle.link.specs.Look.{check_turn}
 use Rattle.link_next.specs.KeepAlive.{awaits_after, owes_after}
 use Rattle.link_next.specs.Next.{after_of}
 use Rattle.link.specs.Receive.{gives, receive_of}
 use Rattle.send_rules.specs.Sent.{awaits_sent, awaited_sent, owes_sent, sent_of}
-use Rattle.send_rules.specs.Control.{send_refusal, control_answer, step_by, buffer_by, control_step, control_buffer}
+use Rattle.send_rules.specs.Control.{check_send, control_answer, step_by, buffer_by, control_step, control_buffer}
 use Rattle.keep_alive_out.specs.KeepAlive.{ping_step, ping_buffer, pong_step, pong_buffer}
 use Rattle.pair.specs.Awaits.{Awaits}
 use Rattle.pair.proofs.StepAlike.{awaits-again, awaits-still}
 use Rattle.pair.proofs.KeepAlive.{ping-allowed, pong-allowed, ping-received, pong-received}
+use Rattle.std.specs.Prelude.{Ok, Err, ⊤, Result}
+use Rattle.refusal.specs.declared.Refusal.TheVariants.{LinkClosed, NotOurTurn}
+use Rattle.refusal.specs.declared.Refusal.{Refusal}
 
 -- 8 bytes make a packet of 24, whole words on every link
 pub size-24 : (l : Link) → size_of l 8 ≡ 24
@@ -42,22 +44,22 @@ size-24 l = go (pads_of l)
     go false = refl
 
 -- a link whose turn to receive it is, is not closed
-not_closed : (l : Link) → turn_refusal l ≡ 0 → l.closed ≡ false
-unfolding turn_refusal
+not_closed : (l : Link) → check_turn l ≡ Ok tt → l.closed ≡ false
+unfolding check_turn
 not_closed l e = go l.closed refl e
   where
-    go : (b : Bool) → l.closed ≡ b → ◌≡◌ {A = ℕ} (pick b 20 (pick (not (may_send (not l.set.server) l.stage)) 22 0)) 0 → b ≡ false
-    go true q z = absurd (omega (arith, z))
+    go : (b : Bool) → l.closed ≡ b → ◌≡◌ {A = Result ⊤ Refusal} (pick b (Err LinkClosed) (pick (not (may_send (not l.set.server) l.stage)) (Err NotOurTurn) (Ok tt))) (Ok tt) → b ≡ false
+    go true q z = cc
     go false q z = refl
 
 -- a send of 8 bytes on an open link, where nothing of its own is in the way
-module _ (l : Link) (kind : ℕ) (busy : Bool) (body : List ℕ) (id : ℕ) (b : List ℕ) (n : length body ≡ 8) (turn : turn_refusal l ≡ 0) (over : 4 ≤ l.stage)
+module _ (l : Link) (kind : ℕ) (busy : Bool) (body : List ℕ) (id : ℕ) (b : List ℕ) (n : length body ≡ 8) (turn : check_turn l ≡ Ok tt) (over : 4 ≤ l.stage)
     (may : allowed_of l kind ≡ true) (free : busy ≡ false) (room : 24 ≤ length b) where
-  written : control_answer l kind busy (length body) (length b) ≡ Written 24
-  unfolding control_answer send_refusal may_send fits_of
+  written : control_answer l kind busy (length body) (length b) ≡ Ok 24
+  unfolding control_answer check_send may_send fits_of
   written = simp (n, size-24 l, not_closed l turn, le-leb 4 l.stage over, may, free, le-ltb (length b) 24 room)
 
-  step_is : control_step l kind busy body id (length b) ≡ record { link = sent_of l kind id 24; answer = Written 24 }
+  step_is : control_step l kind busy body id (length b) ≡ record { link = sent_of l kind id 24; answer = Ok 24 }
   unfolding control_step
   step_is = ap (step_by l kind id) written
 
@@ -89,18 +91,18 @@ module _ (l k : Link) (there : Awaits k l) (back : Awaits l k) (over-l : 4 ≤ l
   stay s h = rw (le-ltb s 4 h) h
 
   -- the Ping is written
-  pub ping-written : ping_step l id (length b1) ≡ record { link = l1; answer = Written 24 }
+  pub ping-written : ping_step l id (length b1) ≡ record { link = l1; answer = Ok 24 }
   unfolding ping_step
   ping-written = step_is l 0x5730a2df l.awaits (bytes 8 id) id b1 (eight id) back.turn over-l (ping-allowed l over-l) rest room1
 
   -- and received
-  pub ping-heard : receive_of k (ping_buffer l id b1) m1 ≡ gives k1 (Packet 0x5730a2df 24 12 8)
+  pub ping-heard : receive_of k (ping_buffer l id b1) m1 ≡ gives k1 (Ok (Packet 0x5730a2df 24 12 8))
   unfolding ping_buffer
   ping-heard =
       ap (λ (s : List ℕ). receive_of k s m1) (buffer-is l 0x5730a2df l.awaits (bytes 8 id) id b1 (eight id) back.turn over-l (ping-allowed l over-l) rest room1)
       ∙ ((ping-received k l there over-k number_l (drop (length (packet_of l 0x5730a2df (bytes 8 id))) b1) m1 id fits free).0
-      ∙ ap (λ (n : ℕ). gives k1 (Packet 0x5730a2df (size_of l n) 12 n)) (eight id)
-      ∙ ap (λ (n : ℕ). gives k1 (Packet 0x5730a2df n 12 8)) (size-24 l))
+      ∙ ap (λ (n : ℕ). gives k1 (Ok (Packet 0x5730a2df (size_of l n) 12 n))) (eight id)
+      ∙ ap (λ (n : ℕ). gives k1 (Ok (Packet 0x5730a2df n 12 8))) (size-24 l))
 
   owes : k1.owes ≡ true
   unfolding after_of owes_after
@@ -128,7 +130,7 @@ module _ (l k : Link) (there : Awaits k l) (back : Awaits l k) (over-l : 4 ≤ l
   number-k1 = number_k
 
   -- the Pong is written
-  pub pong-written : pong_step k1 (length b2) ≡ record { link = k2; answer = Written 24 }
+  pub pong-written : pong_step k1 (length b2) ≡ record { link = k2; answer = Ok 24 }
   unfolding pong_step
   pong-written = step_is k1 0x8430eaa7 (not k1.owes) (bytes 8 k1.owed) 0 b2 (eight k1.owed) there1.turn over-k1 (pong-allowed k1 over-k1) (ap not owes) room2
 
@@ -141,14 +143,14 @@ module _ (l k : Link) (there : Awaits k l) (back : Awaits l k) (over-l : 4 ≤ l
   awaited = sym owed
 
   -- and received
-  pub pong-heard : receive_of l1 (pong_buffer k1 b2) m2 ≡ gives l2 (Packet 0x8430eaa7 24 12 8)
+  pub pong-heard : receive_of l1 (pong_buffer k1 b2) m2 ≡ gives l2 (Ok (Packet 0x8430eaa7 24 12 8))
   unfolding pong_buffer
   pong-heard =
       ap (λ (s : List ℕ). receive_of l1 s m2)
       (buffer-is k1 0x8430eaa7 (not k1.owes) (bytes 8 k1.owed) 0 b2 (eight k1.owed) there1.turn over-k1 (pong-allowed k1 over-k1) (ap not owes) room2)
       ∙ ((pong-received l1 k1 back1 over-l1 number-k1 (drop (length (packet_of k1 0x8430eaa7 (bytes 8 k1.owed))) b2) m2 (rw owed fits) waits awaited).0
-      ∙ ap (λ (n : ℕ). gives l2 (Packet 0x8430eaa7 (size_of k1 n) 12 n)) (eight k1.owed)
-      ∙ ap (λ (n : ℕ). gives l2 (Packet 0x8430eaa7 n 12 8)) (size-24 k1))
+      ∙ ap (λ (n : ℕ). gives l2 (Ok (Packet 0x8430eaa7 (size_of k1 n) 12 n))) (eight k1.owed)
+      ∙ ap (λ (n : ℕ). gives l2 (Ok (Packet 0x8430eaa7 n 12 8))) (size-24 k1))
 
   -- KEPT ALIVE: no Ping is unanswered and no Pong is owed, and each waits for the other's next packet
   pub at_rest : ((l2.awaits ≡ false) × (k2.owes ≡ false)) × (Awaits k2 l2 × Awaits l2 k2)

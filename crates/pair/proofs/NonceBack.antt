@@ -15,16 +15,14 @@ use Rattle.link_state.specs.SetUp.{fresh_of}
 use Rattle.link_cipher.specs.Offered.{encryption_of, offers_or_takes, sent_key_id, sent_point}
 use Rattle.packet.specs.Allowed.{allowed_of}
 use Rattle.packet.specs.Body.{body_of}
-use Rattle.packet_head.specs.Head.{length_refusal}
-use Rattle.link.specs.Receive.{body_refusal, receive_of}
+use Rattle.packet_head.specs.Head.{check_length}
+use Rattle.link.specs.Receive.{check_body, receive_of}
 use Rattle.link.specs.declared.Received.{Received}
 use Rattle.packet_out.specs.Packet.{packet_of}
-use Rattle.packet_out.specs.declared.Sent.TheVariants.{Written}
 use Rattle.nonce_out.specs.Nonce.{version_of, our_nonce, nonce_step, nonce_buffer}
 use Rattle.nonce_out.specs.declared.Drawn.{Drawn}
 use Rattle.nonce_out.proofs.BodyLaws.{length-point, length-ours}
 use Rattle.nonce_out.proofs.SentLaws.{small-version, nonce-answered, nonce-left}
-use Rattle.nonce_in.specs.declared.NonceRead.TheVariants.{Fields}
 use Rattle.nonce_in.specs.Fields.{point_place, nonce_of}
 use Rattle.nonce_in.proofs.FieldLaws.{nonce-back, random-back, point-back}
 use Rattle.send_rules.specs.declared.Step.{Step}
@@ -34,9 +32,10 @@ use Rattle.pair.proofs.RoundTrip.{reads-body}
 use Rattle.pair.proofs.SentReceived.{sent-received}
 use Rattle.pair.proofs.NoncePasses.{point-small, small-nonce}
 use Rattle.pair.proofs.Opening.{sent1, got1, sent2, got2}
+use Rattle.std.specs.Prelude.{Ok}
 
 module _ (l : Link) (drawn : Drawn) (b : List ℕ) (m : Moment) (n : ℕ) (e : (nonce_step l drawn m (length b)).answer
-    ≡ Written n)
+    ≡ Ok n)
     (t : m.time < 2 ^ 32) (r : length drawn.random ≡ 16) (p : length drawn.point ≡ 32) where
   abbrev ours : List ℕ
   ours = our_nonce l drawn m
@@ -58,7 +57,7 @@ module _ (l : Link) (drawn : Drawn) (b : List ℕ) (m : Moment) (n : ℕ) (e : (
   -- OUR NONCE READ BACK: the link's version, the time and the random bytes as they were given, and the point, which
   -- is the card's where the cipher is offered or taken, and else zeros
   pub sent-nonce-back : (nonce_of body
-      ≡ Fields (record {
+      ≡ Ok (record {
         version = version_of l;
         time = m.time;
         random = record { at = 12; len = 16 };
@@ -83,10 +82,10 @@ module _ (l : Link) (drawn : Drawn) (b : List ℕ) (m : Moment) (n : ℕ) (e : (
 
   -- READ BY A PEER: of every link that awaits it, takes Nonces now and does not refuse this one, from the place that
   -- its receive call names
-  module _ (k : Link) (m2 : Moment) (a : Awaits k l) (len : length_refusal k 76 ≡ 0) (may : allowed_of k 0x7acb87aa
+  module _ (k : Link) (m2 : Moment) (a : Awaits k l) (len : check_length k 76 ≡ Ok tt) (may : allowed_of k 0x7acb87aa
       ≡ true)
       (number : l.sends < 2 ^ 32) (g : Small drawn.random) (h : Small drawn.point)
-      (ok : body_refusal k 0x7acb87aa ours m2 ≡ 0) where
+      (ok : check_body k 0x7acb87aa ours m2 ≡ Ok tt) where
     abbrev named : List ℕ
     named = body_of buffer (receive_of k buffer m2).answer
 
@@ -100,11 +99,11 @@ module _ (l : Link) (drawn : Drawn) (b : List ℕ) (m : Moment) (n : ℕ) (e : (
         let is : length ours ≡ 60 = length-ours l drawn m r p in
         ap (λ (x : Received). body_of buffer x.answer)
         (sent-received l 0x7acb87aa false ours b k n (nonce-answered l drawn b m n e) a
-        (ap (λ (x : ℕ). length_refusal k (x + 16)) is ∙ len) may number (omega (arith, is)) (lit< tt) small-ours m2 ok)
+        (ap (λ (x : ℕ). check_length k (x + 16)) is ∙ len) may number (omega (arith, is)) (lit< tt) small-ours m2 ok)
         ∙ ap (λ (x : ℕ). within buffer 12 x) is
 
     pub received-nonce-back : (nonce_of named
-        ≡ Fields (record {
+        ≡ Ok (record {
           version = version_of l;
           time = m.time;
           random = record { at = 12; len = 16 };
@@ -117,7 +116,7 @@ module _ (l : Link) (drawn : Drawn) (b : List ℕ) (m : Moment) (n : ℕ) (e : (
 abbrev pub Tells : List ℕ → ℕ → List ℕ → List ℕ → Type 0
 Tells body time random point =
     (nonce_of body
-    ≡ Fields (record { version = 2; time = time; random = record { at = 12; len = 16 }; point = point_place 2 }))
+    ≡ Ok (record { version = 2; time = time; random = record { at = 12; len = 16 }; point = point_place 2 }))
     × ((within body 12 16 ≡ random) × (within body 28 32 ≡ point))
 
 -- two fresh links that open against each other

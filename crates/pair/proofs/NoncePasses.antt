@@ -16,21 +16,22 @@ use Rattle.link_state.specs.declared.Settings.{Settings}
 use Rattle.link_state.specs.declared.Moment.{Moment}
 use Rattle.link_cipher.specs.Offered.{offer_of}
 use Rattle.link_cipher.specs.Chosen.{server_refuses, client_refuses, encryption_refused, chosen_of, cipher_refused}
-use Rattle.opening.specs.Clock.{nonce_clock, clock_of, within30, is_near, near_of}
-use Rattle.opening.specs.Nonce.{least_of, beyond_of, nonce_refusal}
+use Rattle.opening.specs.Clock.{nonce_clock, clock_of, within30, near_of}
+use Rattle.opening.specs.Nonce.{least_of, beyond_of, check_nonce}
 use Rattle.nonce_out.specs.Nonce.{nonce_head, nonce_body}
 use Rattle.nonce_out.proofs.BodyLaws.{length-nonce, nonce-key-id, nonce-cipher, nonce-version, nonce-time}
 use Rattle.pair.specs.Opens.{Choices, settings_of, both_of, Meet}
 use Rattle.pair.proofs.SumLaws.{small-append, small_bytes}
+use Rattle.std.specs.Prelude.{Ok, is_some}
 
 -- ---- clocks that are at most 30 apart are near
 
-pub near : (a b : ℕ) → a ≤ b + 30 → b ≤ a + 30 → is_near (clock_of a b) ≡ true
+pub near : (a b : ℕ) → a ≤ b + 30 → b ≤ a + 30 → is_some (clock_of a b) ≡ true
 unfolding clock_of
 near a zero h g = simp (le-leb (a + 0) 30 (omega arith))
 near a (suc k) h g = by-test (ltb a (suc k))
   where
-    by-test : (t : Bool) → is_near (within30 (cond t (negsuc (suc k - suc a)) (pos (a - suc k)))) ≡ true
+    by-test : (t : Bool) → is_some (within30 (cond t (negsuc (suc k - suc a)) (pos (a - suc k)))) ≡ true
     by-test true = simp (le-leb (suc k - suc a) 29 (omega arith))
     by-test false = simp (le-leb (a - suc k) 30 (omega arith))
 
@@ -77,10 +78,10 @@ module _ (k e version time : ℕ) (random point : List ℕ) where
   -- a Nonce of ours passes, where the clocks are near and its encryption and KeyID are not refused
   pub nonce-passes : (l : Link) (m : Moment) → length random ≡ 16 → length point ≡ 32 → version ≤ 2
       → l.set.lowest ≤ version
-      → time < 2 ^ 32 → is_near (clock_of time m.time) ≡ true
+      → time < 2 ^ 32 → is_some (clock_of time m.time) ≡ true
       → cipher_refused l (nonce_body k e version time random point) ≡ false
-      → nonce_refusal l (nonce_body k e version time random point) m ≡ 0
-  unfolding nonce_refusal least_of beyond_of near_of nonce_clock
+      → check_nonce l (nonce_body k e version time random point) m ≡ Ok tt
+  unfolding check_nonce least_of beyond_of near_of nonce_clock
   nonce-passes l m n p v low t near ok =
       simp (
         length-nonce k e version time random point n p,

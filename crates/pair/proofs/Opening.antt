@@ -19,17 +19,16 @@ use Rattle.link_state.specs.Turn.{may_send, stage_after}
 use Rattle.packet.specs.Sum.{castagnoli_of}
 use Rattle.packet.specs.Allowed.{allowed_of}
 use Rattle.packet_padding.specs.Padding.{padded_of, pads_of, tail_of, phase_after}
-use Rattle.packet_head.specs.Head.{length_refusal}
+use Rattle.packet_head.specs.Head.{check_length}
 use Rattle.packet.specs.declared.Arrival.TheVariants.{Packet}
 use Rattle.packet_out.specs.Size.{size_of, fits_of}
-use Rattle.packet_out.specs.declared.Sent.TheVariants.{Written}
-use Rattle.opening.specs.Nonce.{nonce_refusal}
-use Rattle.handshake_in.specs.Handshake.{flag_of, handshake_refusal}
-use Rattle.link.specs.Look.{turn_refusal}
+use Rattle.opening.specs.Nonce.{check_nonce}
+use Rattle.handshake_in.specs.Handshake.{flag_of, check_handshake}
+use Rattle.link.specs.Look.{check_turn}
 use Rattle.link_next.specs.KeepAlive.{awaits_after, owes_after, owed_after}
 use Rattle.link_next.specs.Next.{agreed_after, version_after, ciphered_after, after_of}
-use Rattle.link.specs.Receive.{body_refusal, gives, receive_of}
-use Rattle.send_rules.specs.Control.{send_refusal, control_answer, step_by, control_step, control_buffer}
+use Rattle.link.specs.Receive.{check_body, gives, receive_of}
+use Rattle.send_rules.specs.Control.{check_send, control_answer, step_by, control_step, control_buffer}
 use Rattle.nonce_out.specs.Nonce.{version_of, nonce_body, our_nonce, nonce_step, nonce_buffer}
 use Rattle.handshake_out.specs.Handshake.{flags_of, pid_bytes, handshake_body, handshake_step, handshake_buffer}
 use Rattle.send_rules.specs.Sent.{awaits_sent, awaited_sent, owes_sent, sent_of}
@@ -44,6 +43,7 @@ use Rattle.pair.proofs.NoncePasses.{offer-small, answer-small, offer-chosen, ans
 use Rattle.pair.proofs.NoncePasses.{offer-key, answer-key}
 use Rattle.pair.proofs.RoundTrip.{field}
 use Rattle.pair.proofs.SentReceived.{sent-received}
+use Rattle.std.specs.Prelude.{Ok}
 
 module _ (flag : Bool) (s p : NetPid) where
   -- the Handshake with the flag, or without
@@ -70,30 +70,30 @@ module _ (flag : Bool) (s p : NetPid) where
       go false = refl
 
   -- a Handshake passes, if a client that did not offer gets no flag
-  pub hand-passes : (set : Settings) → (not set.server && (not set.allows && flag)) ≡ false → handshake_refusal set hand ≡ 0
-  unfolding handshake_refusal
+  pub hand-passes : (set : Settings) → (not set.server && (not set.allows && flag)) ≡ false → check_handshake set hand ≡ Ok tt
+  unfolding check_handshake
   hand-passes set h = simp (length-handshake (pick flag 0x800 0) s p, hand-flag, h)
 
 -- ---- the four packets
 
 -- a packet of the opening, with a body of n bytes and room for it
-module _ (l k : Link) (kind : ℕ) (body b : List ℕ) (n : ℕ) (is : length body ≡ n) (short : n < 1000) (room : n + 16 ≤ length b) (may-send : send_refusal l kind false ≡ 0) (size : size_of l n ≡ n + 16) where
+module _ (l k : Link) (kind : ℕ) (body b : List ℕ) (n : ℕ) (is : length body ≡ n) (short : n < 1000) (room : n + 16 ≤ length b) (may-send : check_send l kind false ≡ Ok tt) (size : size_of l n ≡ n + 16) where
   -- the send call is accepted
-  written : control_answer l kind false (length body) (length b) ≡ Written (n + 16)
+  written : control_answer l kind false (length body) (length b) ≡ Ok (n + 16)
   unfolding control_answer fits_of
   written = simp (is, may-send, size, le-ltb 16777199 n (omega arith), le-ltb (length b) (n + 16) room)
 
-  sends : control_step l kind false body 0 (length b) ≡ record { link = sent_of l kind 0 (n + 16); answer = Written (n + 16) }
+  sends : control_step l kind false body 0 (length b) ≡ record { link = sent_of l kind 0 (n + 16); answer = Ok (n + 16) }
   unfolding control_step
   sends = ap (step_by l kind 0) written
 
   -- and the peer that waits for it receives it
-  receives : (m : Moment) → Awaits k l → length_refusal k (n + 16) ≡ 0 → allowed_of k kind ≡ true → l.sends < 2 ^ 32 → kind < 2 ^ 32 → Small body → body_refusal k kind body m ≡ 0
-      → receive_of k (control_buffer l kind false body b) m ≡ gives (after_of k kind body m) (Packet kind (n + 16) 12 n)
+  receives : (m : Moment) → Awaits k l → check_length k (n + 16) ≡ Ok tt → allowed_of k kind ≡ true → l.sends < 2 ^ 32 → kind < 2 ^ 32 → Small body → check_body k kind body m ≡ Ok tt
+      → receive_of k (control_buffer l kind false body b) m ≡ gives (after_of k kind body m) (Ok (Packet kind (n + 16) 12 n))
   receives m a len may number kind_fits g ok =
-      sent-received l kind false body b k (n + 16) written a (ap (λ (x : ℕ). length_refusal k (x + 16)) is ∙ len) may number (omega arith) kind_fits g m ok
-      ∙ (ap (λ (x : ℕ). gives (after_of k kind body m) (Packet kind (size_of l x) 12 x)) is
-      ∙ ap (λ (x : ℕ). gives (after_of k kind body m) (Packet kind x 12 n)) size)
+      sent-received l kind false body b k (n + 16) written a (ap (λ (x : ℕ). check_length k (x + 16)) is ∙ len) may number (omega arith) kind_fits g m ok
+      ∙ (ap (λ (x : ℕ). gives (after_of k kind body m) (Ok (Packet kind (size_of l x) 12 x))) is
+      ∙ ap (λ (x : ℕ). gives (after_of k kind body m) (Ok (Packet kind x 12 n))) size)
 
 -- a Handshake of 44 bytes is whole words
 hand-size : (p : Bool) → 44 + pick p 0 0 ≡ 44
@@ -153,7 +153,7 @@ module _ (x y : Choices) (meet : Meet x y) (c s : Caller) (b1 b2 b3 b4 : List �
   len-s : length nonce_s ≡ 60
   len-s = length-nonce _ _ 2 _ s.drawn.random point_s g.server_random (point-length z _ g.server_point)
 
-  passes-c : nonce_refusal s0 nonce_c s.heard ≡ 0
+  passes-c : check_nonce s0 nonce_c s.heard ≡ Ok tt
   passes-c =
       nonce-passes _ _ 2 c.told.time c.drawn.random point_c s0 s.heard g.client_random
       (point-length x.cipher _ g.client_point) (omega arith) meet.server_lowest g.client_clock
@@ -162,7 +162,7 @@ module _ (x y : Choices) (meet : Meet x y) (c s : Caller) (b1 b2 b3 b4 : List �
       (offer-small C) (offer-taken x y meet)
       (ap (λ (b : Bool). b && not (eqb (pick x.cipher x.keyid 0) y.keyid)) (offer-chosen x y) ∙ offer-key x y meet))
 
-  passes-s : nonce_refusal c1 nonce_s c.heard ≡ 0
+  passes-s : check_nonce c1 nonce_s c.heard ≡ Ok tt
   passes-s =
       nonce-passes _ _ 2 s.told.time s.drawn.random point_s c1 c.heard g.server_random
       (point-length z _ g.server_point) (omega arith) meet.client_lowest g.server_clock
@@ -172,13 +172,13 @@ module _ (x y : Choices) (meet : Meet x y) (c s : Caller) (b1 b2 b3 b4 : List �
       (ap (λ (b : Bool). b && not (eqb (pick z y.keyid 0) x.keyid)) (answer-chosen x y) ∙ answer-key x y meet))
 
   -- the client's Nonce
-  pub sent1 : nonce_step c0 c.drawn c.told (length b1) ≡ record { link = c1; answer = Written 76 }
-  unfolding nonce_step our_nonce version_of encryption_of sent_key_id sent_point offers_or_takes send_refusal may_send allowed_of sent_of
+  pub sent1 : nonce_step c0 c.drawn c.told (length b1) ≡ record { link = c1; answer = Ok 76 }
+  unfolding nonce_step our_nonce version_of encryption_of sent_key_id sent_point offers_or_takes check_send may_send allowed_of sent_of
       stage_after awaits_sent awaited_sent owes_sent size_of tail_of pads_of padded_of phase_after
   sent1 = sends c0 s0 0x7acb87aa nonce_c b1 60 len-c (lit< tt) g.room1 refl refl
 
-  pub got1 : receive_of s0 (nonce_buffer c0 c.drawn c.told b1) s.heard ≡ gives s1 (Packet 0x7acb87aa 76 12 60)
-  unfolding nonce_buffer our_nonce castagnoli_of turn_refusal send_refusal may_send length_refusal allowed_of body_refusal after_of
+  pub got1 : receive_of s0 (nonce_buffer c0 c.drawn c.told b1) s.heard ≡ gives s1 (Ok (Packet 0x7acb87aa 76 12 60))
+  unfolding nonce_buffer our_nonce castagnoli_of check_turn check_send may_send check_length allowed_of check_body after_of
       agreed_after version_after ciphered_after stage_after awaits_after owes_after owed_after version_of encryption_of
       sent_key_id sent_point offers_or_takes size_of tail_of pads_of padded_of
   got1 =
@@ -193,13 +193,13 @@ module _ (x y : Choices) (meet : Meet x y) (c s : Caller) (b1 b2 b3 b4 : List �
       )
 
   -- the server's Nonce
-  pub sent2 : nonce_step s1 s.drawn s.told (length b2) ≡ record { link = s2; answer = Written 76 }
-  unfolding nonce_step our_nonce version_of encryption_of sent_key_id sent_point offers_or_takes send_refusal may_send allowed_of sent_of
+  pub sent2 : nonce_step s1 s.drawn s.told (length b2) ≡ record { link = s2; answer = Ok 76 }
+  unfolding nonce_step our_nonce version_of encryption_of sent_key_id sent_point offers_or_takes check_send may_send allowed_of sent_of
       stage_after awaits_sent awaited_sent owes_sent size_of tail_of pads_of padded_of phase_after
   sent2 = sends s1 c1 0x7acb87aa nonce_s b2 60 len-s (lit< tt) g.room2 refl refl
 
-  pub got2 : receive_of c1 (nonce_buffer s1 s.drawn s.told b2) c.heard ≡ gives c2 (Packet 0x7acb87aa 76 12 60)
-  unfolding nonce_buffer our_nonce castagnoli_of turn_refusal send_refusal may_send length_refusal allowed_of body_refusal after_of
+  pub got2 : receive_of c1 (nonce_buffer s1 s.drawn s.told b2) c.heard ≡ gives c2 (Ok (Packet 0x7acb87aa 76 12 60))
+  unfolding nonce_buffer our_nonce castagnoli_of check_turn check_send may_send check_length allowed_of check_body after_of
       agreed_after version_after ciphered_after stage_after awaits_after owes_after owed_after version_of encryption_of
       sent_key_id sent_point offers_or_takes size_of tail_of pads_of padded_of
   got2 =
@@ -214,15 +214,15 @@ module _ (x y : Choices) (meet : Meet x y) (c s : Caller) (b1 b2 b3 b4 : List �
       )
 
   -- the client's Handshake
-  pub sent3 : handshake_step c2 c.pid s.pid (length b3) ≡ record { link = c3; answer = Written 44 }
-  unfolding handshake_step flags_of send_refusal may_send allowed_of sent_of stage_after awaits_sent awaited_sent owes_sent size_of
+  pub sent3 : handshake_step c2 c.pid s.pid (length b3) ≡ record { link = c3; answer = Ok 44 }
+  unfolding handshake_step flags_of check_send may_send allowed_of sent_of stage_after awaits_sent awaited_sent owes_sent size_of
       tail_of pads_of padded_of phase_after
   sent3 =
       sends c2 s2 0x7682eef5 (hand x.allows c.pid s.pid) b3 28 (length-handshake _ c.pid s.pid) (lit< tt)
       g.room3 refl (hand-size (x.padded || z))
 
-  got3 : receive_of s2 (handshake_buffer c2 c.pid s.pid b3) m3 ≡ gives s3 (Packet 0x7682eef5 44 12 28)
-  unfolding handshake_buffer castagnoli_of turn_refusal send_refusal may_send length_refusal allowed_of body_refusal after_of
+  got3 : receive_of s2 (handshake_buffer c2 c.pid s.pid b3) m3 ≡ gives s3 (Ok (Packet 0x7682eef5 44 12 28))
+  unfolding handshake_buffer castagnoli_of check_turn check_send may_send check_length allowed_of check_body after_of
       agreed_after version_after ciphered_after stage_after awaits_after owes_after owed_after flags_of size_of tail_of pads_of
       padded_of
   got3 =
@@ -233,16 +233,16 @@ module _ (x y : Choices) (meet : Meet x y) (c s : Caller) (b1 b2 b3 b4 : List �
       ∙ rw (hand-flag x.allows c.pid s.pid)
 
   -- the server's Handshake, still under CRC-32
-  pub sent4 : handshake_step s3 s.pid c.pid (length b4) ≡ record { link = open_of true y z (y.allows && x.allows); answer = Written 44 }
-  unfolding handshake_step flags_of send_refusal may_send allowed_of sent_of stage_after awaits_sent awaited_sent owes_sent size_of
+  pub sent4 : handshake_step s3 s.pid c.pid (length b4) ≡ record { link = open_of true y z (y.allows && x.allows); answer = Ok 44 }
+  unfolding handshake_step flags_of check_send may_send allowed_of sent_of stage_after awaits_sent awaited_sent owes_sent size_of
       tail_of pads_of padded_of phase_after
   sent4 =
       sends s3 c3 0x7682eef5 (hand (y.allows && x.allows) s.pid c.pid) b4 28 (length-handshake _ s.pid c.pid)
       (lit< tt) g.room4 refl (hand-size (y.padded || z))
 
   got4 : receive_of c3 (handshake_buffer s3 s.pid c.pid b4) m4
-      ≡ gives (open_of false x z (x.allows && (y.allows && x.allows))) (Packet 0x7682eef5 44 12 28)
-  unfolding handshake_buffer castagnoli_of turn_refusal send_refusal may_send length_refusal allowed_of body_refusal after_of
+      ≡ gives (open_of false x z (x.allows && (y.allows && x.allows))) (Ok (Packet 0x7682eef5 44 12 28))
+  unfolding handshake_buffer castagnoli_of check_turn check_send may_send check_length allowed_of check_body after_of
       agreed_after version_after ciphered_after stage_after awaits_after owes_after owed_after flags_of size_of tail_of pads_of
       padded_of
   got4 =
@@ -286,8 +286,8 @@ module _ (x y : Choices) (meet : Meet x y) (c s : Caller) (b1 b2 b3 b4 : List �
       ≡ record {
         client = open_of false x z (x.allows && y.allows);
         server = open_of true y z (x.allows && y.allows);
-        sent = Written 76 ∷ Written 76 ∷ Written 44 ∷ Written 44 ∷ [];
-        received = Packet 0x7acb87aa 76 12 60 ∷ Packet 0x7acb87aa 76 12 60 ∷ Packet 0x7682eef5 44 12 28 ∷ Packet 0x7682eef5 44 12 28 ∷ [];
+        sent = Ok 76 ∷ Ok 76 ∷ Ok 44 ∷ Ok 44 ∷ [];
+        received = Ok (Packet 0x7acb87aa 76 12 60) ∷ Ok (Packet 0x7acb87aa 76 12 60) ∷ Ok (Packet 0x7682eef5 44 12 28) ∷ Ok (Packet 0x7682eef5 44 12 28) ∷ [];
       }
   unfolding opens fresh_of
   whole = rw (sent1, got1, sent2, got2, sent3, got3, sent4, got4, both x.allows y.allows, swap x.allows y.allows)
@@ -302,7 +302,7 @@ module _ (x y : Choices) (meet : Meet x y) (c s : Caller) (b1 b2 b3 b4 : List �
 
   -- each waits for the other's next packet
   pub each-awaits : Awaits exchange.client exchange.server × Awaits exchange.server exchange.client
-  unfolding castagnoli_of turn_refusal may_send pads_of padded_of
+  unfolding castagnoli_of check_turn may_send pads_of padded_of
   each-awaits =
       rw whole (
         record { number = refl; checksum = refl; stage = refl; profile = meet.same_profile; turn = refl },
@@ -310,10 +310,10 @@ module _ (x y : Choices) (meet : Meet x y) (c s : Caller) (b1 b2 b3 b4 : List �
       )
 
   -- every send call is accepted
-  pub all-written : exchange.sent ≡ Written 76 ∷ Written 76 ∷ Written 44 ∷ Written 44 ∷ []
+  pub all-written : exchange.sent ≡ Ok 76 ∷ Ok 76 ∷ Ok 44 ∷ Ok 44 ∷ []
   all-written = ap (λ (o : Opened). o.sent) whole
 
   -- and every packet is received
   pub all-received : exchange.received
-      ≡ Packet 0x7acb87aa 76 12 60 ∷ Packet 0x7acb87aa 76 12 60 ∷ Packet 0x7682eef5 44 12 28 ∷ Packet 0x7682eef5 44 12 28 ∷ []
+      ≡ Ok (Packet 0x7acb87aa 76 12 60) ∷ Ok (Packet 0x7acb87aa 76 12 60) ∷ Ok (Packet 0x7682eef5 44 12 28) ∷ Ok (Packet 0x7682eef5 44 12 28) ∷ []
   all-received = ap (λ (o : Opened). o.received) whole

@@ -14,15 +14,14 @@ use Rattle.link_state.specs.declared.Link.{Link}
 use Rattle.link_state.specs.declared.Moment.{Moment}
 use Rattle.packet.specs.Allowed.{allowed_of}
 use Rattle.packet.specs.Body.{body_of}
-use Rattle.packet_head.specs.Head.{length_refusal}
+use Rattle.packet_head.specs.Head.{check_length}
 use Rattle.packet_out.specs.Size.{size_of}
 use Rattle.packet_out.specs.Packet.{packet_of}
-use Rattle.packet_out.specs.declared.Sent.TheVariants.{Written}
 use Rattle.packet_out.proofs.PacketLaws.{length-packet}
 use Rattle.handshake_in.specs.declared.NetPid.{NetPid}
 use Rattle.handshake_in.specs.declared.NetPids.{NetPids}
 use Rattle.handshake_in.specs.Pids.{PidFits, pids_of}
-use Rattle.link.specs.Receive.{body_refusal, receive_of}
+use Rattle.link.specs.Receive.{check_body, receive_of}
 use Rattle.link.specs.declared.Received.{Received}
 use Rattle.send_rules.specs.Control.{control_answer, control_step, buffer_by, control_buffer}
 use Rattle.send_rules.proofs.ControlLaws.{step-answer, fits}
@@ -32,6 +31,9 @@ use Rattle.handshake_out.proofs.PidsAlone.{pids-back}
 use Rattle.pair.specs.Awaits.{Awaits}
 use Rattle.pair.proofs.SumLaws.{small-append, small_bytes}
 use Rattle.pair.proofs.RoundTrip.{reads-body, received}
+use Rattle.std.specs.Prelude.{Ok, Err, ⊤, Result}
+use Rattle.refusal.specs.declared.Refusal.TheVariants.{LengthInOpening}
+use Rattle.refusal.specs.declared.Refusal.{Refusal}
 
 small-pid : (p : NetPid) → Small (pid_bytes p)
 unfolding pid_bytes
@@ -46,11 +48,11 @@ small-handshake flags s p =
     small-append (bytes 4 flags) _ (small_bytes 4 flags) (small-append (pid_bytes s) _ (small-pid s) (small-pid p))
 
 -- a Handshake of 28 bytes passes every rule of length
-length-44 : (k : Link) (n : ℕ) → n ≡ 28 → length_refusal k (n + 16) ≡ 0
-unfolding length_refusal
+length-44 : (k : Link) (n : ℕ) → n ≡ 28 → check_length k (n + 16) ≡ Ok tt
+unfolding check_length
 length-44 k n e = rw e (go (ltb k.stage 4))
   where
-    go : (b : Bool) → ◌≡◌ {A = ℕ} (pick (b && false) 3 0) 0
+    go : (b : Bool) → ◌≡◌ {A = Result ⊤ Refusal} (pick (b && false) (Err LengthInOpening) (Ok tt)) (Ok tt)
     go true = refl
     go false = refl
 
@@ -61,7 +63,7 @@ pids_heard k s m = pids_of (body_of s (receive_of k s m).answer)
 module _ (l k : Link) (a : Awaits k l) (may : allowed_of k 0x7682eef5 ≡ true) (number : l.sends < 2 ^ 32)
     (sender peer : NetPid) (fs : PidFits sender) (fp : PidFits peer) (m : Moment) where
   -- of a Handshake that l wrote and k does not refuse, whatever bytes follow
-  pub pids-received : (flags : ℕ) (rest : List ℕ) → body_refusal k 0x7682eef5 (handshake_body flags sender peer) m ≡ 0
+  pub pids-received : (flags : ℕ) (rest : List ℕ) → check_body k 0x7682eef5 (handshake_body flags sender peer) m ≡ Ok tt
       → pids_heard k (packet_of l 0x7682eef5 (handshake_body flags sender peer) ++ rest) m
       ≡ record { sender = sender; peer = peer }
   unfolding body_of
@@ -76,8 +78,8 @@ module _ (l k : Link) (a : Awaits k l) (may : allowed_of k 0x7682eef5 ≡ true) 
       ∙ (ap pids_of (reads-body l 0x7682eef5 body rest) ∙ pids-back flags sender peer fs fp)
 
   -- the same of the whole buffer after the send call, whatever it held
-  pub pids-sent-received : (b : List ℕ) (n : ℕ) → (handshake_step l sender peer (length b)).answer ≡ Written n
-      → body_refusal k 0x7682eef5 (handshake_body (flags_of l) sender peer) m ≡ 0
+  pub pids-sent-received : (b : List ℕ) (n : ℕ) → (handshake_step l sender peer (length b)).answer ≡ Ok n
+      → check_body k 0x7682eef5 (handshake_body (flags_of l) sender peer) m ≡ Ok tt
       → pids_heard k (handshake_buffer l sender peer b) m ≡ record { sender = sender; peer = peer }
   unfolding handshake_step handshake_buffer control_step control_buffer
   pids-sent-received b n e ok =

@@ -9,7 +9,6 @@ use Rattle.wire.specs.Bytes.{bytes}
 use Rattle.link_state.specs.declared.Link.{Link}
 use Rattle.link_state.specs.declared.Moment.{Moment}
 use Rattle.packet.specs.declared.Arrival.TheVariants.{Packet}
-use Rattle.packet_out.specs.declared.Sent.TheVariants.{Written}
 use Rattle.link_next.specs.KeepAlive.{awaits_after}
 use Rattle.link_next.specs.Next.{after_of}
 use Rattle.send_rules.specs.Sent.{owes_sent, sent_of}
@@ -20,6 +19,7 @@ use Rattle.keep_alive_out.specs.KeepAlive.{ping_step, pong_step}
 use Rattle.pair.specs.KeepAlive.{exchange_of, KeptAlive, Alive}
 use Rattle.pair.proofs.KeptAlive.{ping-written, ping-heard, pong-written, pong-heard}
 use Rattle.pair.proofs.InTurn.{alive-after-ping, alive-after-pong, flipped}
+use Rattle.std.specs.Prelude.{Ok}
 
 module _ (l k : Link) (a : Alive l k) (id : ℕ) (fits : id < 2 ^ 64) (rest : l.awaits ≡ false)
     (b1 b2 : List ℕ) (room1 : 24 ≤ length b1) (room2 : 24 ≤ length b2) (m1 m2 : Moment) where
@@ -32,18 +32,18 @@ module _ (l k : Link) (a : Alive l k) (id : ℕ) (fits : id < 2 ^ 64) (rest : l.
   free : k.owes ≡ false
   free = a.owing_k.turn ∙ rest
 
-  sent1 : ping_step l id (length b1) ≡ record { link = l1; answer = Written 24 }
+  sent1 : ping_step l id (length b1) ≡ record { link = l1; answer = Ok 24 }
   sent1 = ping-written l k a.there a.back a.open_l a.open_k a.number_l a.number_k id fits rest free b1 b2 room1 room2 m1 m2
 
-  sent2 : pong_step k1 (length b2) ≡ record { link = sent_of k1 0x8430eaa7 0 24; answer = Written 24 }
+  sent2 : pong_step k1 (length b2) ≡ record { link = sent_of k1 0x8430eaa7 0 24; answer = Ok 24 }
   sent2 = pong-written l k a.there a.back a.open_l a.open_k a.number_l a.number_k id fits rest free b1 b2 room1 room2 m1 m2
 
   whole : exchange_of l k id b1 b2 m1 m2
       ≡ record {
         pinger = after_of l1 0x8430eaa7 (bytes 8 k1.owed) m2;
         ponger = sent_of k1 0x8430eaa7 0 24;
-        sent = Written 24 ∷ Written 24 ∷ [];
-        received = Packet 0x5730a2df 24 12 8 ∷ Packet 0x8430eaa7 24 12 8 ∷ [];
+        sent = Ok 24 ∷ Ok 24 ∷ [];
+        received = Ok (Packet 0x5730a2df 24 12 8) ∷ Ok (Packet 0x8430eaa7 24 12 8) ∷ [];
       }
   unfolding exchange_of
   whole =

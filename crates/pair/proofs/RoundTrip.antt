@@ -19,7 +19,7 @@ use Rattle.link_state.specs.declared.Moment.{Moment}
 use Rattle.packet.specs.Sum.{castagnoli_of, sum_of}
 use Rattle.packet.specs.Allowed.{allowed_of}
 use Rattle.packet_padding.specs.Padding.{pads_of, tail_of, words_allowed, fours_of}
-use Rattle.packet_head.specs.Head.{length_refusal, head_refusal}
+use Rattle.packet_head.specs.Head.{check_length, check_head}
 use Rattle.packet_in.specs.Frame.{whole_of, rows_of}
 use Rattle.packet.specs.declared.Arrival.TheVariants.{Packet}
 use Rattle.packet_out.specs.Size.{size_of}
@@ -27,10 +27,12 @@ use Rattle.packet_out.specs.Packet.{head_of, front_of, packet_of}
 use Rattle.packet_out.proofs.PacketLaws.{length_front, length-packet}
 use Rattle.link.specs.Look.{look_of}
 use Rattle.link_next.specs.Next.{after_of}
-use Rattle.link.specs.Receive.{body_refusal, gives, refuse, receive_of}
+use Rattle.link.specs.Receive.{check_body, gives, refuse, receive_of}
 use Rattle.pair.specs.Awaits.{Awaits}
 use Rattle.pair.proofs.SumLaws.{small-front, sum_lt}
 use Rattle.pair.proofs.Words.{length-fours, skipped}
+use Rattle.std.specs.Prelude.{Ok, Err}
+use Rattle.refusal.specs.declared.Refusal.{Refusal}
 
 -- four bytes of a number below 2 ^ 32, behind some others, are read as the number
 pub field : (xs ys : List ℕ) (x at : ℕ) → length xs ≡ at → x < 2 ^ 32 → le (part (xs ++ (bytes 4 x ++ ys)) at 4) ≡ x
@@ -47,9 +49,9 @@ unfolding tail_of
 same-tail k l n e = rw e
 
 -- a whole packet at the front of p, behind so many bytes, passes every row
-rows_whole : (k : Link) (p : List ℕ) (size zeros number kind before : ℕ) → le (part p 0 4) ≡ size → length_refusal k size ≡ 0 → 12 ≤ length p → le (part p 4 4) ≡ number
-    → le (part p 8 4) ≡ kind → head_refusal k number kind ≡ 0 → tail_of k size ≡ zeros → size + zeros ≤ length p → le (part p (size - 4) 4) ≡ sum_of k (take (size - 4) p)
-    → le (part p size zeros) ≡ 0 → rows_of k p before ≡ Packet kind (before + (size + zeros)) (before + 12) (size - 16)
+rows_whole : (k : Link) (p : List ℕ) (size zeros number kind before : ℕ) → le (part p 0 4) ≡ size → check_length k size ≡ Ok tt → 12 ≤ length p → le (part p 4 4) ≡ number
+    → le (part p 8 4) ≡ kind → check_head k number kind ≡ Ok tt → tail_of k size ≡ zeros → size + zeros ≤ length p → le (part p (size - 4) 4) ≡ sum_of k (take (size - 4) p)
+    → le (part p size zeros) ≡ 0 → rows_of k p before ≡ Ok (Packet kind (before + (size + zeros)) (before + 12) (size - 16))
 unfolding rows_of whole_of
 rows_whole k p size zeros number kind before el e1 h12 en ek e2 et hs es ez =
     let h4 : ltb (length p) 4 ≡ false = le-ltb (length p) 4 (omega arith) in
@@ -145,14 +147,14 @@ module _ (l : Link) (kind : ℕ) (body rest : List ℕ) where
 
 -- ---- the round trip
 
-module _ (l : Link) (kind : ℕ) (body rest : List ℕ) (k : Link) (a : Awaits k l) (len : length_refusal k (length body + 16) ≡ 0)
+module _ (l : Link) (kind : ℕ) (body rest : List ℕ) (k : Link) (a : Awaits k l) (len : check_length k (length body + 16) ≡ Ok tt)
     (may : allowed_of k kind ≡ true) (number : l.sends < 2 ^ 32) (small : length body + 16 < 2 ^ 32) (kind_fits : kind < 2 ^ 32) (g : Small body) where
-  head : head_refusal k l.sends kind ≡ 0
-  unfolding head_refusal
+  head : check_head k l.sends kind ≡ Ok tt
+  unfolding check_head
   head = simp (a.number, eq-eqb l.sends l.sends refl, may)
 
   -- so many bytes before it
-  framed : (before : ℕ) → rows_of k (packet_of l kind body ++ rest) before ≡ Packet kind (before + size_of l (length body)) (before + 12) (length body)
+  framed : (before : ℕ) → rows_of k (packet_of l kind body ++ rest) before ≡ Ok (Packet kind (before + size_of l (length body)) (before + 12) (length body))
   unfolding size_of
   framed before =
       let P : List ℕ = packet_of l kind body ++ rest in
@@ -165,11 +167,11 @@ module _ (l : Link) (kind : ℕ) (body rest : List ℕ) (k : Link) (a : Awaits k
       rows_whole k P (length body + 16) z l.sends kind before (reads-length l kind body rest small) len (omega (arith, long l kind body rest))
       (reads-number l kind body rest number) (reads-kind l kind body rest kind_fits) head (same-tail k l (length body + 16) a.profile) (long l kind body rest) sum
       (reads-zeros l kind body rest)
-      ∙ ap (λ (n : ℕ). Packet kind (before + (length body + 16 + z)) (before + 12) n) e
+      ∙ ap (λ (n : ℕ). Ok (Packet kind (before + (length body + 16 + z)) (before + 12) n)) e
 
   -- behind w words
   looked : (w : ℕ) → w ≤ words_allowed k
-      → look_of k (fours_of w ++ (packet_of l kind body ++ rest)) ≡ Packet kind (w * 4 + size_of l (length body)) (w * 4 + 12) (length body)
+      → look_of k (fours_of w ++ (packet_of l kind body ++ rest)) ≡ Ok (Packet kind (w * 4 + size_of l (length body)) (w * 4 + 12) (length body))
   unfolding look_of
   looked w h =
       let P : List ℕ = packet_of l kind body ++ rest in
@@ -179,25 +181,25 @@ module _ (l : Link) (kind : ℕ) (body rest : List ℕ) (k : Link) (a : Awaits k
 
   -- THE ROUND TRIP: with as many words before it as the link allows, the answer is the packet that was sent, its body is
   -- the one that was written, and the link steps by it
-  pub received-behind : (w : ℕ) → w ≤ words_allowed k → (m : Moment) → body_refusal k kind body m ≡ 0
+  pub received-behind : (w : ℕ) → w ≤ words_allowed k → (m : Moment) → check_body k kind body m ≡ Ok tt
       → receive_of k (fours_of w ++ (packet_of l kind body ++ rest)) m
-      ≡ gives (after_of k kind body m) (Packet kind (w * 4 + size_of l (length body)) (w * 4 + 12) (length body))
+      ≡ gives (after_of k kind body m) (Ok (Packet kind (w * 4 + size_of l (length body)) (w * 4 + 12) (length body)))
   unfolding receive_of
   received-behind w h m ok = rw (looked w h, reads-behind l kind body rest w, ok)
 
-  looked-first : look_of k (packet_of l kind body ++ rest) ≡ Packet kind (size_of l (length body)) 12 (length body)
+  looked-first : look_of k (packet_of l kind body ++ rest) ≡ Ok (Packet kind (size_of l (length body)) 12 (length body))
   unfolding fours_of
   looked-first =
       let e : 0 * 4 + size_of l (length body) ≡ size_of l (length body) = omega arith in
-      looked 0 (omega arith) ∙ ap (λ (n : ℕ). Packet kind n 12 (length body)) e
+      looked 0 (omega arith) ∙ ap (λ (n : ℕ). Ok (Packet kind n 12 (length body))) e
 
   -- with none
-  pub received : (m : Moment) → body_refusal k kind body m ≡ 0
-      → receive_of k (packet_of l kind body ++ rest) m ≡ gives (after_of k kind body m) (Packet kind (size_of l (length body)) 12 (length body))
+  pub received : (m : Moment) → check_body k kind body m ≡ Ok tt
+      → receive_of k (packet_of l kind body ++ rest) m ≡ gives (after_of k kind body m) (Ok (Packet kind (size_of l (length body)) 12 (length body)))
   unfolding receive_of
   received m ok = rw (looked-first, reads-body l kind body rest, ok)
 
   -- a body that the link refuses
-  pub body_refused : (m : Moment) (r : ℕ) → body_refusal k kind body m ≡ r → eqb r 0 ≡ false → receive_of k (packet_of l kind body ++ rest) m ≡ refuse k r
+  pub body_refused : (m : Moment) (r : Refusal) → check_body k kind body m ≡ Err r → receive_of k (packet_of l kind body ++ rest) m ≡ refuse k r
   unfolding receive_of
-  body_refused m r bad some = rw (looked-first, reads-body l kind body rest, bad, some)
+  body_refused m r bad = rw (looked-first, reads-body l kind body rest, bad)

@@ -12,7 +12,7 @@ use Rattle.link_state.specs.Turn.{stage_after}
 use Rattle.packet.specs.Sum.{castagnoli_of}
 use Rattle.packet.specs.Allowed.{allowed_of}
 use Rattle.packet_padding.specs.Padding.{padded_of, pads_of}
-use Rattle.link.specs.Look.{turn_refusal}
+use Rattle.link.specs.Look.{check_turn}
 use Rattle.link_next.specs.Next.{agreed_after, ciphered_after, after_of}
 use Rattle.send_rules.specs.Sent.{sent_of}
 use Rattle.pair.specs.Awaits.{Awaits}
@@ -53,12 +53,12 @@ module _ (k l : Link) (over-k : 4 ≤ k.stage) (over-l : 4 ≤ l.stage) (kind id
   unfolding castagnoli_of sent_of
   same-sum-l = rw (stays l.stage over-l)
 
-  same-turn-k : turn_refusal (after_of k kind body m) ≡ turn_refusal k
-  unfolding turn_refusal after_of
+  same-turn-k : check_turn (after_of k kind body m) ≡ check_turn k
+  unfolding check_turn after_of
   same-turn-k = rw (stays k.stage over-k)
 
-  pub same-turn-l : turn_refusal (sent_of l kind id n) ≡ turn_refusal l
-  unfolding turn_refusal sent_of
+  pub same-turn-l : check_turn (sent_of l kind id n) ≡ check_turn l
+  unfolding check_turn sent_of
   same-turn-l = rw (stays l.stage over-l)
 
   same-profile-k : pads_of (after_of k kind body m) ≡ pads_of k

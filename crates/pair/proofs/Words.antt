@@ -16,6 +16,7 @@ use Rattle.packet_padding.specs.Padding.{padded_of, words_allowed, fours_of}
 use Rattle.packet.specs.declared.Arrival.TheVariants.{Incomplete}
 use Rattle.packet_head.specs.Words.{word_at, words_of}
 use Rattle.packet_in.specs.Frame.{rows_of, frame_of}
+use Rattle.std.specs.Prelude.{Ok}
 
 pub length-fours : (w : ℕ) → length (fours_of w) ≡ w * 4
 unfolding fours_of
@@ -149,7 +150,7 @@ words-cut k (suc (suc (suc (suc w)))) p h n = absurd (omega (arith, allowed-few 
 
 -- words with less than a word behind them are awaited with what follows
 pub words-wait : (k : Link) (w : ℕ) (p : List ℕ) → w ≤ words_allowed k → length p < 4
-    → frame_of k (fours_of w ++ p) ≡ Incomplete (4 - length p)
+    → frame_of k (fours_of w ++ p) ≡ Ok (Incomplete (4 - length p))
 unfolding frame_of rows_of
 words-wait k w p h n =
     let few = allowed-few k in

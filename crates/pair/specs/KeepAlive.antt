@@ -1,17 +1,16 @@
 -- Ping and Pong between two links whose opening is over (document 01, "Opening"), each packet received before the next
 -- call. A send call that is refused hands nothing over. Assumes nothing.
-use Rattle.std.specs.Prelude.{◌≡◌, ℕ, ◌≤◌, ◌<◌, ◌^◌, Bool, true, false, List, [], ◌∷◌, ◌++◌, length}
+use Rattle.std.specs.Prelude.{◌≡◌, ℕ, ◌≤◌, ◌<◌, ◌^◌, Bool, true, false, List, [], ◌∷◌, ◌++◌, length, Err, Result, Ok}
 use Rattle.wire.specs.Choice.{pick}
 use Rattle.link_state.specs.declared.Link.{Link}
 use Rattle.link_state.specs.declared.Moment.{Moment}
 use Rattle.packet.specs.declared.Arrival.{Arrival}
 use Rattle.packet.specs.declared.Arrival.TheVariants.{Packet}
-use Rattle.packet_out.specs.declared.Sent.{Sent}
-use Rattle.packet_out.specs.declared.Sent.TheVariants.{Written, Refused}
 use Rattle.link.specs.Receive.{receive_of}
 use Rattle.send_rules.specs.declared.Step.{Step}
 use Rattle.keep_alive_out.specs.KeepAlive.{ping_step, ping_buffer, pong_step, pong_buffer}
 use Rattle.pair.specs.Awaits.{Awaits}
+use Rattle.refusal.specs.declared.Refusal.{Refusal}
 
 -- k owes a Pong exactly if l awaits one, and with the ID of l's Ping
 pub record Owing (l k : Link) : Type 0 where
@@ -37,8 +36,8 @@ pub record Alive (l k : Link) : Type 0 where
 pub record Exchanged : Type 0 where
   pub pinger : Link
   pub ponger : Link
-  pub sent : List Sent
-  pub received : List Arrival
+  pub sent : List (Result ℕ Refusal)
+  pub received : List (Result Arrival Refusal)
 
 -- l sends a Ping with an ID in the buffer b1, k receives it, sends its Pong in b2, and l receives that; k's clock is
 -- m1, l's m2
@@ -57,8 +56,8 @@ exchange_of l k id b1 b2 m1 m2 =
 
 -- both were written and received, no Ping is unanswered and no Pong is owed, and the two are alive as before
 pub record KeptAlive (e : Exchanged) : Type 0 where
-  pub written : e.sent ≡ Written 24 ∷ Written 24 ∷ []
-  pub arrived : e.received ≡ Packet 0x5730a2df 24 12 8 ∷ Packet 0x8430eaa7 24 12 8 ∷ []
+  pub written : e.sent ≡ Ok 24 ∷ Ok 24 ∷ []
+  pub arrived : e.received ≡ Ok (Packet 0x5730a2df 24 12 8) ∷ Ok (Packet 0x8430eaa7 24 12 8) ∷ []
   pub answered : e.pinger.awaits ≡ false
   pub settled : e.ponger.owes ≡ false
   pub alive : Alive e.pinger e.ponger
@@ -86,22 +85,22 @@ abbrev pub buffer_of : Link → Call → List ℕ
 buffer_of l c = pick c.ping (ping_buffer l c.id c.buffer) (pong_buffer l c.buffer)
 
 -- the peer after it, by what the send call answered
-abbrev pub peer_by : Link → Call → Link → Sent → Link
-peer_by l c k (Written n) = (receive_of k (buffer_of l c) c.moment).link
-peer_by l c k (Refused r) = k
+abbrev pub peer_by : Link → Call → Link → Result ℕ Refusal → Link
+peer_by l c k (Ok n) = (receive_of k (buffer_of l c) c.moment).link
+peer_by l c k (Err r) = k
 
 -- what the peer answers
-unfoldable pub heard_by : Link → Call → Link → Sent → List Arrival
-heard_by l c k (Written n) = (receive_of k (buffer_of l c) c.moment).answer ∷ []
-heard_by l c k (Refused r) = []
+unfoldable pub heard_by : Link → Call → Link → Result ℕ Refusal → List (Result Arrival Refusal)
+heard_by l c k (Ok n) = (receive_of k (buffer_of l c) c.moment).answer ∷ []
+heard_by l c k (Err r) = []
 
 -- what it should: that packet
-unfoldable pub meant_by : Link → Call → Link → Sent → List Arrival
-meant_by l c k (Written n) = Packet (pick c.ping 0x5730a2df 0x8430eaa7) n 12 8 ∷ []
-meant_by l c k (Refused r) = []
+unfoldable pub meant_by : Link → Call → Link → Result ℕ Refusal → List (Result Arrival Refusal)
+meant_by l c k (Ok n) = Ok (Packet (pick c.ping 0x5730a2df 0x8430eaa7) n 12 8) ∷ []
+meant_by l c k (Err r) = []
 
 -- what f says of each call, from its sender to the peer, in their order
-unfoldable pub along : (Link → Call → Link → Sent → List Arrival) → Link → Link → List Call → List Arrival
+unfoldable pub along : (Link → Call → Link → Result ℕ Refusal → List (Result Arrival Refusal)) → Link → Link → List Call → List (Result Arrival Refusal)
 along f l k [] = []
 along f l k (c ∷ cs) =
     pick c.ours

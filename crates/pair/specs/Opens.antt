@@ -1,19 +1,19 @@
 -- Two links that open against each other, with nothing lost between them (document 01, "Opening"). Each packet is a
 -- send call of one link on a buffer of its own, then a receive call of the other on that whole buffer: whatever the
 -- call left in it, and whatever stands behind the packet. Assumes nothing.
-use Rattle.std.specs.Prelude.{ℕ, ◌+◌, ◌≤◌, ◌<◌, ◌^◌, ◌≡◌, Bool, true, false, not, ◌&&◌, ◌||◌, List, [], ◌∷◌, length, get_or}
+use Rattle.std.specs.Prelude.{ℕ, ◌+◌, ◌≤◌, ◌<◌, ◌^◌, ◌≡◌, Bool, true, false, not, ◌&&◌, ◌||◌, List, [], ◌∷◌, length, get_or, Result}
 use Rattle.wire.specs.Choice.{pick}
 use Rattle.link_state.specs.declared.Link.{Link}
 use Rattle.link_state.specs.declared.Settings.{Settings}
 use Rattle.link_state.specs.declared.Moment.{Moment}
 use Rattle.link_state.specs.SetUp.{fresh_of}
 use Rattle.packet.specs.declared.Arrival.{Arrival}
-use Rattle.packet_out.specs.declared.Sent.{Sent}
 use Rattle.link.specs.Receive.{receive_of}
 use Rattle.nonce_out.specs.Nonce.{nonce_step, nonce_buffer}
 use Rattle.nonce_out.specs.declared.Drawn.{Drawn}
 use Rattle.handshake_out.specs.Handshake.{handshake_step, handshake_buffer}
 use Rattle.handshake_in.specs.declared.NetPid.{NetPid}
+use Rattle.refusal.specs.declared.Refusal.{Refusal}
 
 -- how a link is set up, but for its side
 pub record Choices : Type 0 where
@@ -116,8 +116,8 @@ pub record Able (c s : Caller) (b1 b2 b3 b4 : List ℕ) : Type 0 where
 pub record Opened : Type 0 where
   pub client : Link
   pub server : Link
-  pub sent : List Sent
-  pub received : List Arrival
+  pub sent : List (Result ℕ Refusal)
+  pub received : List (Result Arrival Refusal)
 
 -- "client Nonce, server Nonce, client Handshake, server Handshake", in the buffers b1, b2, b3, b4; the clocks m3, m4
 -- at the receipt of the Handshakes are any

@@ -11,8 +11,6 @@ use Rattle.wire.specs.Choice.{pick}
 use Rattle.link_state.specs.declared.Link.{Link}
 use Rattle.link_state.specs.declared.Moment.{Moment}
 use Rattle.link_state.specs.Turn.{stage_after}
-use Rattle.packet_out.specs.declared.Sent.{Sent}
-use Rattle.packet_out.specs.declared.Sent.TheVariants.{Written, Refused}
 use Rattle.link_next.specs.Next.{after_of}
 use Rattle.link.specs.declared.Received.{Received}
 use Rattle.send_rules.specs.Sent.{sent_of}
@@ -26,6 +24,8 @@ use Rattle.pair_messages.specs.Hear.{Heard}
 use Rattle.pair_messages.specs.Conversation.{Saying, Sound, AllSound, answer_to, sender, receiver, heard_of, meant_of, along, Joined}
 use Rattle.pair_messages.proofs.Received.{message-received}
 use Rattle.pair_messages.proofs.Delivered.{delivered, goes_on, goes_back}
+use Rattle.std.specs.Prelude.{Err, Result, Ok}
+use Rattle.refusal.specs.declared.Refusal.{Refusal}
 
 -- after the opening the stage stays
 stays : (s : ℕ) → 4 ≤ s → 4 ≤ stage_after s
@@ -53,23 +53,23 @@ flipped l k j =
 -- ---- one message from l to k
 
 module _ (l k : Link) (s : Saying) (j : Joined l k) (ok : Sound s) where
-  heard-one : (x : Sent) → answer_to l s ≡ x → heard_of l k s x ≡ meant_of l k s x
+  heard-one : (x : Result ℕ Refusal) → answer_to l s ≡ x → heard_of l k s x ≡ meant_of l k s x
   unfolding heard_of meant_of
-  heard-one (Written n) e =
+  heard-one (Ok n) e =
       ap (λ (h : Heard). h ∷ [])
       (delivered l k s.message s.payload s.buffer n e j.there j.open_k j.number_l ok.bytes s.moment j.sides ok.fields)
-  heard-one (Refused r) e = refl
+  heard-one (Err r) e = refl
 
   -- the two links after it
-  sender-is : (n : ℕ) → answer_to l s ≡ Written n → sender l s ≡ sent_of l (kind_of s.message) 0 n
+  sender-is : (n : ℕ) → answer_to l s ≡ Ok n → sender l s ≡ sent_of l (kind_of s.message) 0 n
   unfolding message_step
-  sender-is n e = ap (λ (x : Sent). (step_by l (kind_of s.message) 0 x).link) e
+  sender-is n e = ap (λ (x : Result ℕ Refusal). (step_by l (kind_of s.message) 0 x).link) e
 
-  sender-stays : (r : ℕ) → answer_to l s ≡ Refused r → sender l s ≡ l
+  sender-stays : (r : Refusal) → answer_to l s ≡ Err r → sender l s ≡ l
   unfolding message_step
-  sender-stays r e = ap (λ (x : Sent). (step_by l (kind_of s.message) 0 x).link) e
+  sender-stays r e = ap (λ (x : Result ℕ Refusal). (step_by l (kind_of s.message) 0 x).link) e
 
-  receiver-is : (n : ℕ) → answer_to l s ≡ Written n → receiver l k s (Written n) ≡ after_of k (kind_of s.message) (body_of s.message s.payload) s.moment
+  receiver-is : (n : ℕ) → answer_to l s ≡ Ok n → receiver l k s (Ok n) ≡ after_of k (kind_of s.message) (body_of s.message s.payload) s.moment
   receiver-is n e =
       ap (λ (r : Received). r.link) (message-received l k s.message s.payload s.buffer n e j.there j.open_k j.number_l ok.bytes s.moment)
 
@@ -86,12 +86,12 @@ module _ (l k : Link) (s : Saying) (j : Joined l k) (ok : Sound s) where
         number_k = rw ek j.number_k;
       }
 
-  joined-still : (x : Sent) → answer_to l s ≡ x → Joined (sender l s) (receiver l k s x)
-  joined-still (Written n) e =
-      joined_by (sender l s) (receiver l k s (Written n)) (kind_of s.message) n (body_of s.message s.payload) (sender-is n e) (receiver-is n e)
+  joined-still : (x : Result ℕ Refusal) → answer_to l s ≡ x → Joined (sender l s) (receiver l k s x)
+  joined-still (Ok n) e =
+      joined_by (sender l s) (receiver l k s (Ok n)) (kind_of s.message) n (body_of s.message s.payload) (sender-is n e) (receiver-is n e)
       (goes_on l k s.message s.payload s.buffer n e j.there j.open_k j.number_l ok.bytes s.moment j.open_l)
       (goes_back l k s.message s.payload s.buffer n e j.there j.open_k j.number_l ok.bytes s.moment j.open_l j.back)
-  joined-still (Refused r) e = rw (sender-stays r e) j
+  joined-still (Err r) e = rw (sender-stays r e) j
 
 -- ---- all of them
 

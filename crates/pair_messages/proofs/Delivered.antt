@@ -7,7 +7,6 @@ use lib.ListN.{length}
 use Rattle.wire.proofs.ByteLaws.{Small}
 use Rattle.link_state.specs.declared.Link.{Link}
 use Rattle.link_state.specs.declared.Moment.{Moment}
-use Rattle.packet_out.specs.declared.Sent.TheVariants.{Written}
 use Rattle.link.specs.Receive.{receive_of}
 use Rattle.link.specs.declared.Received.{Received}
 use Rattle.message.specs.PartOf.{part_of}
@@ -22,8 +21,10 @@ use Rattle.pair_messages.specs.Hear.{heard, side_of, read_at, hear_by, hears}
 use Rattle.pair_messages.proofs.Accepted.{accepted}
 use Rattle.pair_messages.proofs.Received.{may-come, body-handed, message-received}
 use Rattle.pair_messages.proofs.Read.{message-read}
+use Rattle.std.specs.Prelude.{Ok, Result}
+use Rattle.refusal.specs.declared.Refusal.{Refusal}
 
-module _ (l k : Link) (w : Outgoing) (p b : List ℕ) (n : ℕ) (sent : message_answer l w p (length b) ≡ Written n) (a : Awaits k l) (over : 4 ≤ k.stage)
+module _ (l k : Link) (w : Outgoing) (p b : List ℕ) (n : ℕ) (sent : message_answer l w p (length b) ≡ Ok n) (a : Awaits k l) (over : 4 ≤ k.stage)
     (number : l.sends < 2 ^ 32) (g : Small p) (m : Moment) where
   -- WHAT IS SENT IS HEARD: the size that the send call answered, the message, and its payload or text, whatever stood in
   -- the buffer
@@ -35,7 +36,7 @@ module _ (l k : Link) (w : Outgoing) (p b : List ℕ) (n : ℕ) (sent : message_
       ap (λ (x : Received). hear_by (side_of k.set.server) (message_buffer l w p b) x.answer) (message-received l k w p b n sent a over number g m)
       ∙ (ap (λ (x : List ℕ). read_at (side_of k.set.server) (kind_of w) n x) (body-handed l k w p b n sent)
       ∙ (ap (λ (x : Bool). read_at (side_of x) (kind_of w) n (body_of w p)) other
-      ∙ (ap (λ (x : Message). heard n x (part_of (body_of w p) x)) r.0
+      ∙ (ap (λ (x : Result Message Refusal). heard n x (part_of (body_of w p) x)) r.0
       ∙ ap (heard n (meaning_of w p)) r.1)))
 
   -- and both go on: the peer waits for the next packet

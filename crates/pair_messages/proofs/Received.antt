@@ -12,15 +12,14 @@ use Rattle.wire.proofs.ByteLaws.{Small}
 use Rattle.link_state.specs.declared.Link.{Link}
 use Rattle.link_state.specs.declared.Moment.{Moment}
 use Rattle.packet.specs.Allowed.{allowed_of}
-use Rattle.packet_head.specs.Head.{length_refusal}
+use Rattle.packet_head.specs.Head.{check_length}
 use Rattle.packet.specs.Body as Body
 use Rattle.packet.specs.declared.Arrival.TheVariants.{Packet}
 use Rattle.packet_out.specs.Size.{size_of}
 use Rattle.packet_out.specs.Packet.{packet_of}
-use Rattle.packet_out.specs.declared.Sent.TheVariants.{Written}
 use Rattle.packet_out.proofs.PacketLaws.{length-packet}
 use Rattle.link_next.specs.Next.{after_of}
-use Rattle.link.specs.Receive.{body_refusal, gives, receive_of}
+use Rattle.link.specs.Receive.{check_body, gives, receive_of}
 use Rattle.send_rules.specs.Control.{buffer_by}
 use Rattle.message_out.specs.Outgoing.{kind_of, body_of, wrong_way}
 use Rattle.message_out.specs.MessageStep.{message_answer, message_buffer}
@@ -30,6 +29,7 @@ use Rattle.pair.specs.Awaits.{Awaits}
 use Rattle.pair.proofs.RoundTrip.{received, reads-body}
 use Rattle.pair_messages.proofs.Accepted.{Accepted, accepted}
 use Rattle.pair_messages.proofs.SmallBodies.{small-body}
+use Rattle.std.specs.Prelude.{Ok}
 
 -- a type that no rule of the link itself speaks of
 pub record Plain (kind : ℕ) : Type 0 where
@@ -53,19 +53,19 @@ module _ (k : Link) (over : 4 ≤ k.stage) where
   no-opening : ltb k.stage 4 ≡ false
   no-opening = le-ltb k.stage 4 over
 
-  pub length-passes : (n : ℕ) → n ≤ 16777199 → length_refusal k (n + 16) ≡ 0
-  unfolding length_refusal
+  pub length-passes : (n : ℕ) → n ≤ 16777199 → check_length k (n + 16) ≡ Ok tt
+  unfolding check_length
   length-passes n h = simp (no-opening, le-ltb (n + 16) 16 (omega arith), le-ltb 16777215 (n + 16) (omega arith))
 
   allowed : (kind : ℕ) → Plain kind → allowed_of k kind ≡ true
   unfolding allowed_of
   allowed kind pl = simp (no-opening, le-ltb k.stage 2 (omega arith), pl.nonce, pl.handshake)
 
-pub no-refusal : (k : Link) (kind : ℕ) (body : List ℕ) (m : Moment) → Plain kind → body_refusal k kind body m ≡ 0
-unfolding body_refusal
+pub no-refusal : (k : Link) (kind : ℕ) (body : List ℕ) (m : Moment) → Plain kind → check_body k kind body m ≡ Ok tt
+unfolding check_body
 no-refusal k kind body m pl = simp (pl.nonce, pl.handshake, pl.ping, pl.pong)
 
-module _ (l k : Link) (w : Outgoing) (p b : List ℕ) (n : ℕ) (sent : message_answer l w p (length b) ≡ Written n) where
+module _ (l k : Link) (w : Outgoing) (p b : List ℕ) (n : ℕ) (sent : message_answer l w p (length b) ≡ Ok n) where
   abbrev body : List ℕ
   body = body_of w p
 
@@ -90,15 +90,15 @@ module _ (l k : Link) (w : Outgoing) (p b : List ℕ) (n : ℕ) (sent : message_
       ap (buffer_by l (kind_of w) body b) sent ∙ front-stored b packet (omega (arith, known.fits))
 
   -- the body, as the second call hands it back
-  pub body-handed : Body.body_of (message_buffer l w p b) (Packet (kind_of w) n 12 (length body)) ≡ body
+  pub body-handed : Body.body_of (message_buffer l w p b) (Ok (Packet (kind_of w) n 12 (length body))) ≡ body
   unfolding Body.body_of
   body-handed = rw whole (reads-body l (kind_of w) body (drop (length packet) b))
 
   -- MESSAGES ARE RECEIVED: the packet is handed over, and the link steps by it
   pub message-received : Awaits k l → 4 ≤ k.stage → l.sends < 2 ^ 32 → Small p → (m : Moment)
-      → receive_of k (message_buffer l w p b) m ≡ gives (after_of k (kind_of w) body m) (Packet (kind_of w) n 12 (length body))
+      → receive_of k (message_buffer l w p b) m ≡ gives (after_of k (kind_of w) body m) (Ok (Packet (kind_of w) n 12 (length body)))
   message-received a over number g m =
       ap (λ (s : List ℕ). receive_of k s m) whole
       ∙ (received l (kind_of w) body (drop (length packet) b) k a (length-passes k over (length body) known.short) (may-come over) number
       (omega (arith, known.short)) sent-plain.fits (small-body w p g) m (no-refusal k (kind_of w) body m sent-plain)
-      ∙ ap (λ (x : ℕ). gives (after_of k (kind_of w) body m) (Packet (kind_of w) x 12 (length body))) (sym known.size))
+      ∙ ap (λ (x : ℕ). gives (after_of k (kind_of w) body m) (Ok (Packet (kind_of w) x 12 (length body)))) (sym known.size))

@@ -14,8 +14,6 @@ use Rattle.wire.specs.Choice.{pick}
 use Rattle.wire.proofs.ByteLaws.{Small}
 use Rattle.text.specs.TextForm.{pad_of, text_head, head_size, text_bytes}
 use Rattle.invoke.specs.Fields.{effective_timeout}
-use Rattle.invoke.specs.declared.Actor as A
-use Rattle.invoke.specs.declared.Timeout as T
 use Rattle.invoke_out.specs.WriteInvoke.{field_bytes, header_bytes, marker_bytes, invoke_bytes}
 use Rattle.result_out.specs.WriteResult.{payload_bytes, error_bytes}
 use Rattle.cancel_out.specs.WriteShort.{cancel_bytes}
@@ -24,24 +22,25 @@ use Rattle.message_out.specs.declared.Outgoing.{Outgoing}
 use Rattle.message_out.specs.declared.Outgoing.TheVariants.{Invoke, Cancel, ClientFin, Payload, Error, ServerFin, Unknown}
 use Rattle.pair.proofs.SumLaws.{small-append, small_bytes}
 use Rattle.pair.proofs.NoncePasses.{small-zeros}
+use Rattle.std.specs.Prelude.{Option, Some, None, ℤ}
 
 small-none : Small []
 small-none i = lit< tt
 
-small-fields : (a : A.Actor) (t : T.Timeout) → Small (field_bytes a t)
+small-fields : (a : Option ℤ) (t : Option ℕ) → Small (field_bytes a t)
 unfolding field_bytes
-small-fields A.TheVariants.Absent T.TheVariants.Absent = small-none
-small-fields (A.TheVariants.Is a) T.TheVariants.Absent =
+small-fields None None = small-none
+small-fields (Some a) None =
     small-append (bytes 4 0x7568aabd) (bytes 8 (of_z w64 a)) (small_bytes 4 0x7568aabd) (small_bytes 8 (of_z w64 a))
-small-fields A.TheVariants.Absent (T.TheVariants.Ms t) =
+small-fields None (Some t) =
     small-append (bytes 4 0xe352035e) (bytes 4 0x800000 ++ bytes 4 t) (small_bytes 4 0xe352035e)
     (small-append (bytes 4 0x800000) (bytes 4 t) (small_bytes 4 0x800000) (small_bytes 4 t))
-small-fields (A.TheVariants.Is a) (T.TheVariants.Ms t) =
+small-fields (Some a) (Some t) =
     small-append (bytes 4 0xf0a5acf7) (bytes 8 (of_z w64 a) ++ (bytes 4 0x800000 ++ bytes 4 t)) (small_bytes 4 0xf0a5acf7)
     (small-append (bytes 8 (of_z w64 a)) (bytes 4 0x800000 ++ bytes 4 t) (small_bytes 8 (of_z w64 a))
     (small-append (bytes 4 0x800000) (bytes 4 t) (small_bytes 4 0x800000) (small_bytes 4 t)))
 
-small-header : (a : A.Actor) (t : T.Timeout) → Small (header_bytes a t)
+small-header : (a : Option ℤ) (t : Option ℕ) → Small (header_bytes a t)
 unfolding header_bytes
 small-header a t = small-fields a (effective_timeout t)
 

@@ -1,17 +1,16 @@
 -- Messages between two open links, one after the other, that either may send: each is received before the next is sent.
 -- A send call that is refused hands nothing over. Assumes nothing.
-use Rattle.std.specs.Prelude.{◌≡◌, ℕ, ◌≤◌, ◌<◌, ◌^◌, Bool, not, List, [], ◌∷◌, ◌++◌, length, get_or}
+use Rattle.std.specs.Prelude.{◌≡◌, ℕ, ◌≤◌, ◌<◌, ◌^◌, Bool, not, List, [], ◌∷◌, ◌++◌, length, get_or, Err, Result, Ok}
 use Rattle.wire.specs.Choice.{pick}
 use Rattle.link_state.specs.declared.Link.{Link}
 use Rattle.link_state.specs.declared.Moment.{Moment}
-use Rattle.packet_out.specs.declared.Sent.{Sent}
-use Rattle.packet_out.specs.declared.Sent.TheVariants.{Written, Refused}
 use Rattle.link.specs.Receive.{receive_of}
 use Rattle.message_out.specs.MessageStep.{message_answer, message_step, message_buffer}
 use Rattle.message_out.specs.declared.Outgoing.{Outgoing}
 use Rattle.pair.specs.Awaits.{Awaits}
 use Rattle.pair_messages.specs.Meaning.{meaning_of, carried, Fits}
 use Rattle.pair_messages.specs.Hear.{Heard, heard, hears}
+use Rattle.refusal.specs.declared.Refusal.{Refusal}
 
 -- a message, its payload or text, the sender's buffer, the receiver's clock; and whether the first link sends it
 pub record Saying : Type 0 where
@@ -33,7 +32,7 @@ AllSound (s ∷ ss) = Sound s × AllSound ss
 -- ---- one message from l to k
 
 -- what the send call answers, and the link after it
-abbrev pub answer_to : Link → Saying → Sent
+abbrev pub answer_to : Link → Saying → Result ℕ Refusal
 answer_to l s = message_answer l s.message s.payload (length s.buffer)
 
 abbrev pub sender : Link → Saying → Link
@@ -44,24 +43,24 @@ abbrev pub buffer_of : Link → Saying → List ℕ
 buffer_of l s = message_buffer l s.message s.payload s.buffer
 
 -- the peer after it, by the answer
-abbrev pub receiver : Link → Link → Saying → Sent → Link
-receiver l k s (Written n) = (receive_of k (buffer_of l s) s.moment).link
-receiver l k s (Refused r) = k
+abbrev pub receiver : Link → Link → Saying → Result ℕ Refusal → Link
+receiver l k s (Ok n) = (receive_of k (buffer_of l s) s.moment).link
+receiver l k s (Err r) = k
 
 -- what the peer hears
-unfoldable pub heard_of : Link → Link → Saying → Sent → List Heard
-heard_of l k s (Written n) = hears k (buffer_of l s) s.moment ∷ []
-heard_of l k s (Refused r) = []
+unfoldable pub heard_of : Link → Link → Saying → Result ℕ Refusal → List Heard
+heard_of l k s (Ok n) = hears k (buffer_of l s) s.moment ∷ []
+heard_of l k s (Err r) = []
 
 -- what was meant
-unfoldable pub meant_of : Link → Link → Saying → Sent → List Heard
-meant_of l k s (Written n) = heard n (meaning_of s.message s.payload) (carried s.message s.payload) ∷ []
-meant_of l k s (Refused r) = []
+unfoldable pub meant_of : Link → Link → Saying → Result ℕ Refusal → List Heard
+meant_of l k s (Ok n) = heard n (meaning_of s.message s.payload) (carried s.message s.payload) ∷ []
+meant_of l k s (Err r) = []
 
 -- ---- all of them
 
 -- what f says of each message, from its sender to its receiver, in their order
-unfoldable pub along : (Link → Link → Saying → Sent → List Heard) → Link → Link → List Saying → List Heard
+unfoldable pub along : (Link → Link → Saying → Result ℕ Refusal → List Heard) → Link → Link → List Saying → List Heard
 along f l k [] = []
 along f l k (s ∷ ss) =
     pick s.ours

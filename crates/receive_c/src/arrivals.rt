@@ -1,62 +1,54 @@
 // Receiving.
 ghost use Rattle.std.specs.Prelude.{◌≡◌};
 ghost use Rattle.link.specs.Receive.{receive_of};
-ghost use Rattle.receive_c.specs.ArrivalFields.{arrival_fields, answered_of};
+ghost use Rattle.receive_c.specs.ArrivalFields.{arrival_fields};
 
-use crate::{Answered, RelayArrival};
-use link::receive_step;
+use crate::RelayArrival;
+use link::receive;
 use link_state::{Link, Moment};
 use packet::Arrival;
+use refusal::Refusal;
 
-fn arrival_fields(a: Arrival) -> RelayArrival
-    ensures { result ≡ arrival_fields a }
-{
-    match a {
-        Arrival::Refused(k) => RelayArrival {
+impl From<Result<Arrival, Refusal>> for RelayArrival {
+    ghost from_gives = { λ answer fields. fields ≡ arrival_fields answer };
+
+    #[tactic(auto, unfolding(crate::specs::ArrivalFields::arrival_fields))]
+    fn from(answer: Result<Arrival, Refusal>) -> RelayArrival {
+        let none = RelayArrival {
             tag: 0,
-            refusal: k,
+            refusal: 0,
             kind: 0,
             more: 0,
             consumed: 0,
             at: 0,
             len: 0,
-        },
-        Arrival::Incomplete(k) => RelayArrival {
-            tag: 1,
-            refusal: 0,
-            kind: 0,
-            more: k,
-            consumed: 0,
-            at: 0,
-            len: 0,
-        },
-        Arrival::Packet {
-            kind,
-            consumed,
-            at,
-            len,
-        } => RelayArrival {
-            tag: 2,
-            refusal: 0,
-            kind,
-            more: 0,
-            consumed,
-            at,
-            len,
-        },
-    }
-}
-
-// The by-value core of relay_receive.
-fn answered(link: Link, bytes: &[u8], moment: Moment) -> Answered
-    ensures { result ≡ answered_of (receive_of link bytes.now moment) }
-{
-    let r = receive_step(link, bytes, moment);
-    let l = r.link;
-    let a = r.answer;
-    Answered {
-        link: l,
-        answer: arrival_fields(a),
+        };
+        match answer {
+            Err(refusal) => RelayArrival {
+                refusal: u8::from(refusal),
+                ..none
+            },
+            Ok(Arrival::Incomplete(more)) => RelayArrival {
+                tag: 1,
+                more,
+                ..none
+            },
+            Ok(
+                Arrival::Packet {
+                    kind,
+                    consumed,
+                    at,
+                    len,
+                },
+            ) => RelayArrival {
+                tag: 2,
+                kind,
+                consumed,
+                at,
+                len,
+                ..none
+            },
+        }
     }
 }
 
@@ -65,8 +57,5 @@ pub fn relay_receive(link: &mut Link, bytes: &[u8], moment: Moment) -> RelayArri
     ensures { (result ≡ arrival_fields (receive_of link.old bytes.now moment).answer)
         × (link.new ≡ (receive_of link.old bytes.now moment).link) }
 {
-    let l = *link;
-    let r = answered(l, bytes, moment);
-    *link = r.link;
-    r.answer
+    RelayArrival::from(receive(link, bytes, moment))
 }

@@ -1,77 +1,73 @@
-// The refusal numbers of documents 01 and 02, by name, in their order: the one place that names them. Definitions in
-// specs/ write the numbers themselves, so that they can be held against the documents.
+// The refusals of documents 01 and 02, by name and number, in their order: the one place that names and numbers them.
+//
+// A call that can refuse answers a `Result` whose error is a `Refusal`. Its number is `u8::from` it: C is told numbers,
+// and the documents write them. specs/Numbers.antt is the table that definitions are held against.
 #![tactic(auto)]
 
-// Packets.
-pub const LENGTH_UNDER_16: u8 = 1;
+ghost use Rattle.std.specs.Prelude.{◌≡◌};
+ghost use Rattle.refusal.specs.Numbers.{number};
 
-pub const LENGTH_OVER_LIMIT: u8 = 2;
+use std::error::Error;
+use std::fmt;
 
-pub const LENGTH_IN_OPENING: u8 = 3;
+#[derive(Clone, Copy, Debug, PartialEq, Eq)]
+pub enum Refusal {
+    // Packets.
+    LengthUnder16 = 1,
+    LengthOverLimit = 2,
+    LengthInOpening = 3,
+    PacketNumber = 4,
+    TypeNotAllowed = 5,
+    Checksum = 6,
+    // The opening.
+    OpeningShort = 7,
+    Clocks = 8,
+    Encryption = 9,
+    BeyondOffer = 10,
+    // Messages.
+    MessageCut = 11,
+    NumberZero = 12,
+    HeaderRepeated = 13,
+    HeaderNotCarried = 14,
+    PayloadReadsAsHeader = 15,
+    BufferTooSmall = 16,
+    BodySize = 17,
+    TextForm = 18,
+    TypeNotRpc = 19,
+    // The link.
+    LinkClosed = 20,
+    PingOutOfTurn = 21,
+    NotOurTurn = 22,
+    VersionTooOld = 24,
+    PaddingNotZero = 25,
+    FourthWord = 26,
+    // The table of requests in flight; 30 also of a link that is set up.
+    OutOfRange = 30,
+    InFlightAlready = 31,
+    LoadAtLimit = 32,
+    CapacityGone = 33,
+    NoSuchRequest = 34,
+    // The event stream.
+    EventUnknownOrCut = 35,
+    // Keys of links.
+    UnsuitableKey = 36,
+    // The cipher.
+    NotWholeBlocks = 37,
+}
 
-pub const PACKET_NUMBER: u8 = 4;
+impl From<Refusal> for u8 {
+    ghost from_gives = { λ refusal code. code ≡ number refusal };
 
-pub const TYPE_NOT_ALLOWED: u8 = 5;
+    #[tactic(auto, unfolding(crate::specs::Numbers::number))]
+    fn from(refusal: Refusal) -> u8 {
+        refusal as u8
+    }
+}
 
-pub const CHECKSUM: u8 = 6;
+impl fmt::Display for Refusal {
+    fn fmt<W: fmt::Write>(&self, f: &mut fmt::Formatter<W>) -> fmt::Result {
+        write!(f, "refusal {}", u8::from(*self))
+    }
+}
 
-// The opening.
-pub const OPENING_SHORT: u8 = 7;
-
-pub const CLOCKS: u8 = 8;
-
-pub const ENCRYPTION: u8 = 9;
-
-pub const BEYOND_OFFER: u8 = 10;
-
-// Messages.
-pub const MESSAGE_CUT: u8 = 11;
-
-pub const NUMBER_ZERO: u8 = 12;
-
-pub const HEADER_REPEATED: u8 = 13;
-
-pub const HEADER_NOT_CARRIED: u8 = 14;
-
-pub const PAYLOAD_READS_AS_HEADER: u8 = 15;
-
-pub const BUFFER_TOO_SMALL: u8 = 16;
-
-pub const BODY_SIZE: u8 = 17;
-
-pub const TEXT_FORM: u8 = 18;
-
-pub const TYPE_NOT_RPC: u8 = 19;
-
-// The link.
-pub const LINK_CLOSED: u8 = 20;
-
-pub const PING_OUT_OF_TURN: u8 = 21;
-
-pub const NOT_OUR_TURN: u8 = 22;
-
-pub const VERSION_TOO_OLD: u8 = 24;
-
-pub const PADDING_NOT_ZERO: u8 = 25;
-
-pub const FOURTH_WORD: u8 = 26;
-
-// The table of requests in flight; 30 also of a link that is set up.
-pub const OUT_OF_RANGE: u8 = 30;
-
-pub const IN_FLIGHT_ALREADY: u8 = 31;
-
-pub const LOAD_AT_LIMIT: u8 = 32;
-
-pub const CAPACITY_GONE: u8 = 33;
-
-pub const NO_SUCH_REQUEST: u8 = 34;
-
-// The event stream.
-pub const EVENT_UNKNOWN_OR_CUT: u8 = 35;
-
-// Keys of links.
-pub const UNSUITABLE_KEY: u8 = 36;
-
-// The cipher.
-pub const NOT_WHOLE_BLOCKS: u8 = 37;
+impl Error for Refusal {}

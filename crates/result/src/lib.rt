@@ -22,16 +22,3 @@ pub struct Reply {
     pub number: i64,
     pub answer: Answer,
 }
-
-#[derive(Clone, Copy)]
-pub enum ReplyRead {
-    Reply(Reply),
-    Refused(u8),
-}
-
-// Where the answer begins, behind the query number and at most one header; or a refusal's number.
-#[derive(Clone, Copy)]
-pub enum Begin {
-    At(usize),
-    Refused(u8),
-}

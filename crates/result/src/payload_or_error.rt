@@ -2,57 +2,52 @@
 ghost use Rattle.std.specs.Prelude.{◌≡◌};
 ghost use Rattle.result.specs.ReadResult.{payload_from, read_error, read_answer};
 
-use crate::{Answer, Reply, ReplyRead};
+use crate::{Answer, Reply};
 use header::{Kind, Side, kind_of};
-use refusal::{BODY_SIZE, HEADER_REPEATED, MESSAGE_CUT};
-use text::{Text, read_text};
+use refusal::Refusal;
+use text::read_text;
 use wire::{i32_at, left, u32_at};
 
 // A payload from at to the end.
-fn payload_from(s: &[u8], number: i64, at: usize) -> ReplyRead
+#[tactic(auto, unfolding(crate::specs::ReadResult::payload_from))]
+fn payload_from(s: &[u8], number: i64, at: usize) -> Result<Reply, Refusal>
     ensures { result ≡ payload_from s.now number at }
 {
-    ReplyRead::Reply(Reply {
-        number: number,
+    Ok(Reply {
+        number,
         answer: Answer::Payload {
-            at: at,
+            at,
             len: left(s, at),
         },
     })
 }
 
 // An error's code and text, from at to the end.
-pub(crate) fn read_error(s: &[u8], number: i64, at: usize) -> ReplyRead
+#[tactic(auto, using(refusal::proofs::Passing::passed), unfolding(crate::specs::ReadResult::read_error))]
+pub(crate) fn read_error(s: &[u8], number: i64, at: usize) -> Result<Reply, Refusal>
     ensures { result ≡ read_error s.now number at }
 {
     if left(s, at) < 4 {
-        return ReplyRead::Refused(MESSAGE_CUT);
+        return Err(Refusal::MessageCut);
     }
     let code = i32_at(s, at);
-    match read_text(s, at + 4) {
-        Text::Found {
-            at: from,
-            len,
-            next,
-        } => {
-            if next == s.len() {
-                return ReplyRead::Reply(Reply {
-                    number: number,
-                    answer: Answer::Error {
-                        code: code,
-                        at: from,
-                        len: len,
-                    },
-                });
-            }
-            ReplyRead::Refused(BODY_SIZE)
-        }
-        Text::Refused(n) => ReplyRead::Refused(n),
+    let text = read_text(s, at + 4)?;
+    if text.next != s.len() {
+        return Err(Refusal::BodySize);
     }
+    Ok(Reply {
+        number,
+        answer: Answer::Error {
+            code,
+            at: text.at,
+            len: text.len,
+        },
+    })
 }
 
 // A payload or an error, from at to the end.
-pub(crate) fn read_answer(s: &[u8], number: i64, at: usize) -> ReplyRead
+#[tactic(auto, unfolding(crate::specs::ReadResult::read_answer))]
+pub(crate) fn read_answer(s: &[u8], number: i64, at: usize) -> Result<Reply, Refusal>
     ensures { result ≡ read_answer s.now number at }
 {
     let room = left(s, at);
@@ -60,19 +55,10 @@ pub(crate) fn read_answer(s: &[u8], number: i64, at: usize) -> ReplyRead
         return payload_from(s, number, at);
     }
     match kind_of(Side::Client, u32_at(s, at)) {
-        Kind::ResultHeader => ReplyRead::Refused(HEADER_REPEATED),
+        Kind::ResultHeader => Err(Refusal::HeaderRepeated),
         Kind::Error => read_error(s, number, at + 4),
-        Kind::NumberedError => {
-            if room < 12 {
-                return ReplyRead::Refused(MESSAGE_CUT);
-            }
-            read_error(s, number, at + 12)
-        }
-        Kind::Flags => payload_from(s, number, at),
-        Kind::Actor => payload_from(s, number, at),
-        Kind::ActorFlags => payload_from(s, number, at),
-        Kind::Diagonal => payload_from(s, number, at),
-        Kind::Marker => payload_from(s, number, at),
-        Kind::Other => payload_from(s, number, at),
+        Kind::NumberedError if room < 12 => Err(Refusal::MessageCut),
+        Kind::NumberedError => read_error(s, number, at + 12),
+        _ => payload_from(s, number, at),
     }
 }

@@ -15,13 +15,15 @@ use handshake_in::NetPid;
 use link_state::{Link, Moment};
 use message_out::Outgoing;
 use nonce_out::Drawn;
-use packet_out::Sent;
+use refusal::Refusal;
 pub use step::send_step;
 
 // What to send; the payload or text of a message goes beside it.
 #[derive(Clone, Copy)]
 pub enum ToSend {
-    // with what the caller drew for it, which goes beside it: an enum that holds an array is not covered
+    // with what the caller drew for it
+    // Kept: it goes beside the enum, as in the definitions `send_of` and `send_buffer`, which the theorems of link_calls,
+    // link_padding and link_versions name; an enum may hold arrays today.
     Nonce,
     Handshake { sender: NetPid, peer: NetPid },
     // the ID of the Ping
@@ -38,7 +40,7 @@ pub fn send(
     what: ToSend,
     drawn: Drawn,
     moment: Moment,
-) -> Sent
+) -> Result<usize, Refusal>
     ensures { (result ≡ (send_of link.old what payload.now drawn moment (length buf.old)).answer)
         × (link.new ≡ (send_of link.old what payload.now drawn moment (length buf.old)).link)
         × (buf.new ≡ send_buffer link.old what payload.now drawn moment buf.old) }

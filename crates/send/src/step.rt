@@ -11,6 +11,7 @@ use nonce_out::{Drawn, nonce_step};
 use send_rules::Step;
 
 // The packet at the front of the buffer, and the link after it; or a refusal, which changes neither.
+#[tactic(auto, unfolding(crate::specs::Send::send_of, crate::specs::Send::send_buffer))]
 pub fn send_step(
     link: Link,
     buf: &mut [u8],

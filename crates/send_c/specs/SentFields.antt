@@ -1,16 +1,11 @@
 -- What a send call answers, as a struct for C. Assumes nothing.
-use Rattle.packet_out.specs.declared.Sent.{Sent}
-use Rattle.packet_out.specs.declared.Sent.TheVariants.{Written, Refused}
-use Rattle.send_rules.specs.declared.Step.{Step}
 use Rattle.send_c.specs.declared.RelaySent.{RelaySent}
-use Rattle.send_c.specs.declared.Answered.{Answered}
+use Rattle.std.specs.Prelude.{ℕ, Result, Ok, Err}
+use Rattle.refusal.specs.Numbers.{number}
+use Rattle.refusal.specs.declared.Refusal.{Refusal}
 
-unfoldable pub sent_fields : Sent → RelaySent
+unfoldable pub sent_fields : Result ℕ Refusal → RelaySent
 -- "the packet's size is handed back"
-sent_fields (Written n) = record { refusal = 0; size = n }
+sent_fields (Ok n) = record { refusal = 0; size = n }
 -- "Every refusal gives back its number alone"
-sent_fields (Refused k) = record { refusal = k; size = 0 }
-
--- the link after the call, and the answer so
-abbrev pub answered_of : Step → Answered
-answered_of s = record { link = s.link; answer = sent_fields s.answer }
+sent_fields (Err k) = record { refusal = number k; size = 0 }

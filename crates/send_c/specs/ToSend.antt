@@ -1,9 +1,7 @@
 -- What to send, from a struct for C, by the packet's type (document 01, "Opening" and "Messages": "The packet type is the
 -- message type"). A field that the type does not use counts for nothing. Assumes nothing.
-use Rattle.std.specs.Prelude.{ℕ, Bool, [], ◌∷◌, ℤ, eqb}
+use Rattle.std.specs.Prelude.{ℕ, Bool, [], ◌∷◌, ℤ, eqb, Option, Some, None}
 use Rattle.wire.specs.Choice.{pick, first}
-use Rattle.invoke.specs.declared.Actor as A
-use Rattle.invoke.specs.declared.Timeout as T
 use Rattle.message_out.specs.declared.Outgoing.{Outgoing}
 use Rattle.message_out.specs.declared.Outgoing.TheVariants as O
 use Rattle.send.specs.declared.ToSend.{ToSend}
@@ -12,12 +10,12 @@ use Rattle.nonce_out.specs.declared.Drawn.{Drawn}
 use Rattle.send_c.specs.declared.RelayOutgoing.{RelayOutgoing}
 
 -- the actor, if one is given
-abbrev pub actor_of : Bool → ℤ → A.Actor
-actor_of given a = pick given (A.TheVariants.Is a) A.TheVariants.Absent
+abbrev pub actor_of : Bool → ℤ → Option ℤ
+actor_of given a = pick given (Some a) None
 
 -- the timeout in ms, if one is given
-abbrev pub timeout_of : Bool → ℕ → T.Timeout
-timeout_of given ms = pick given (T.TheVariants.Ms ms) T.TheVariants.Absent
+abbrev pub timeout_of : Bool → ℕ → Option ℕ
+timeout_of given ms = pick given (Some ms) None
 
 -- "An answer is thus a page or an error, inside one message"
 abbrev pub result_of : Bool → ℤ → ℤ → Outgoing

@@ -10,13 +10,13 @@ mod outgoing;
 mod sending;
 
 use handshake_in::NetPid;
-use link_state::Link;
 pub use sending::relay_send;
 
 // What to send. kind is the packet's type. A Nonce has random and point; a Handshake sender and peer; a Ping id; an
 // invoke number, tl2, actor if hasactor, timeout in ms if hastimeout; a cancel number; a result number, and code if
 // error says that it is an error and not a payload. Fields that the type does not use are ignored; a type that is never
 // sent is refused.
+// Kept: numbers and flags in place of a `Result` or an `Option`, since the C interface has these fields.
 #[repr(C)]
 #[derive(Clone, Copy)]
 pub struct RelayOutgoing {
@@ -38,16 +38,10 @@ pub struct RelayOutgoing {
 
 // How many bytes the packet takes at the front of the buffer; or, where refusal is not 0, the refusal's number, and
 // then the size is 0 and no byte was written.
+// Kept: numbers and flags in place of a `Result` or an `Option`, since the C interface has these fields.
 #[repr(C)]
 #[derive(Clone, Copy)]
 pub struct RelaySent {
     pub refusal: u8,
     pub size: usize,
-}
-
-// The link after a send call, and the answer.
-#[derive(Clone, Copy)]
-struct Answered {
-    link: Link,
-    answer: RelaySent,
 }

@@ -1,33 +1,13 @@
 // What to send, by the packet's type.
 ghost use Rattle.std.specs.Prelude.{◌≡◌};
-ghost use Rattle.send_c.specs.ToSend.{actor_of, timeout_of, result_of, message_of, to_send_of};
+ghost use Rattle.send_c.specs.ToSend.{result_of, message_of, to_send_of, drawn_of};
 
 use crate::RelayOutgoing;
-use invoke::{Actor, Timeout};
 use message::{CANCEL, CLIENT_FIN, INVOKE, RESULT, SERVER_FIN};
 use message_out::Outgoing;
+use nonce_out::Drawn;
 use packet::{HANDSHAKE, NONCE, PING, PONG};
 use send::ToSend;
-
-fn actor_of(given: bool, actor: i64) -> Actor
-    ensures { result ≡ actor_of given actor }
-{
-    if given {
-        Actor::Is(actor)
-    } else {
-        Actor::Absent
-    }
-}
-
-fn timeout_of(given: bool, ms: u32) -> Timeout
-    ensures { result ≡ timeout_of given ms }
-{
-    if given {
-        Timeout::Ms(ms)
-    } else {
-        Timeout::Absent
-    }
-}
 
 fn result_of(error: bool, number: i64, code: i32) -> Outgoing
     ensures { result ≡ result_of error number code }
@@ -39,51 +19,52 @@ fn result_of(error: bool, number: i64, code: i32) -> Outgoing
     }
 }
 
-fn message_of(what: RelayOutgoing) -> Outgoing
-    ensures { result ≡ message_of what }
-{
-    let kind = what.kind;
-    let number = what.number;
-    if kind == INVOKE {
-        return Outgoing::Invoke {
-            number,
-            actor: actor_of(what.hasactor, what.actor),
-            timeout: timeout_of(what.hastimeout, what.timeout),
-            tl2: what.tl2,
-        };
+impl From<RelayOutgoing> for Outgoing {
+    ghost from_gives = { λ what message. message ≡ message_of what };
+
+    #[tactic(auto, unfolding(crate::specs::ToSend::message_of))]
+    fn from(what: RelayOutgoing) -> Outgoing {
+        let number = what.number;
+        match what.kind {
+            INVOKE => Outgoing::Invoke {
+                number,
+                actor: what.hasactor.then_some(what.actor),
+                timeout: what.hastimeout.then_some(what.timeout),
+                tl2: what.tl2,
+            },
+            CANCEL => Outgoing::Cancel(number),
+            CLIENT_FIN => Outgoing::ClientFin,
+            RESULT => result_of(what.error, number, what.code),
+            SERVER_FIN => Outgoing::ServerFin,
+            kind => Outgoing::Unknown(kind),
+        }
     }
-    if kind == CANCEL {
-        return Outgoing::Cancel(number);
-    }
-    if kind == CLIENT_FIN {
-        return Outgoing::ClientFin;
-    }
-    if kind == RESULT {
-        return result_of(what.error, number, what.code);
-    }
-    if kind == SERVER_FIN {
-        return Outgoing::ServerFin;
-    }
-    Outgoing::Unknown(kind)
 }
 
-pub(crate) fn to_send(what: RelayOutgoing) -> ToSend
-    ensures { result ≡ to_send_of what }
-{
-    let kind = what.kind;
-    if kind == NONCE {
-        return ToSend::Nonce;
+impl From<RelayOutgoing> for ToSend {
+    ghost from_gives = { λ what t. t ≡ to_send_of what };
+
+    #[tactic(auto, unfolding(crate::specs::ToSend::to_send_of))]
+    fn from(what: RelayOutgoing) -> ToSend {
+        match what.kind {
+            NONCE => ToSend::Nonce,
+            HANDSHAKE => ToSend::Handshake {
+                sender: what.sender,
+                peer: what.peer,
+            },
+            PING => ToSend::Ping(what.id),
+            PONG => ToSend::Pong,
+            _ => ToSend::Message(Outgoing::from(what)),
+        }
     }
-    if kind == HANDSHAKE {
-        let sender = what.sender;
-        let peer = what.peer;
-        return ToSend::Handshake { sender, peer };
+}
+
+impl From<RelayOutgoing> for Drawn {
+    ghost from_gives = { λ what drawn. drawn ≡ drawn_of what };
+
+    fn from(what: RelayOutgoing) -> Drawn {
+        let random = what.random;
+        let point = what.point;
+        Drawn { random, point }
     }
-    if kind == PING {
-        return ToSend::Ping(what.id);
-    }
-    if kind == PONG {
-        return ToSend::Pong;
-    }
-    ToSend::Message(message_of(what))
 }

@@ -61,7 +61,7 @@ step-word b t w q h e =
     rw x
 
 -- four bytes as a number
-be-4 : (s : List ℕ) (at : ℕ) → at + 4 ≤ length s
+pub be-4 : (s : List ℕ) (at : ℕ) → at + 4 ≤ length s
     → get_or s at 0 * 16777216 + get_or s (at + 1) 0 * 65536 + get_or s (at + 2) 0 * 256 + get_or s (at + 3) 0
     ≡ be (part s at 4)
 unfolding le
@@ -74,8 +74,3 @@ be-4 s at h =
     let p2 : suc (suc at) ≡ at + 2 = omega arith in
     let p3 : suc (suc (suc at)) ≡ at + 3 = omega arith in
     rw (e0, e1, e2, e3, p3, p2, p1) (omega arith)
-
-pub be-of : (s : List ℕ) (at : ℕ) {a b c d : ℕ} → at + 4 ≤ length s → a ≡ get_or s at 0 → b ≡ get_or s (at + 1) 0
-    → c ≡ get_or s (at + 2) 0 → d ≡ get_or s (at + 3) 0
-    → a * 16777216 + b * 65536 + c * 256 + d ≡ be (part s at 4)
-be-of s at h p q r e = let k = be-4 s at h in omega arith

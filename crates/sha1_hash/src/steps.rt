@@ -3,10 +3,9 @@ ghost use Rattle.std.specs.Prelude.{◌≡◌, ◌<◌};
 ghost use Rattle.sha1_hash.specs.Sha1.{mixing, constant, step};
 
 use super::State;
-use super::schedule::rotl;
-use std::num::wrapping_add_u32;
 
 // The functions Ch, Parity, Maj and Parity.
+#[tactic(auto, unfolding(crate::specs::Sha1::mixing))]
 fn mixing(t: usize, x: u32, y: u32, z: u32) -> u32
     ensures { result ≡ mixing t x y z }
 {
@@ -21,6 +20,7 @@ fn mixing(t: usize, x: u32, y: u32, z: u32) -> u32
     }
 }
 
+#[tactic(auto, unfolding(crate::specs::Sha1::constant))]
 fn constant(t: usize) -> u32
     ensures { result ≡ constant t }
 {
@@ -39,12 +39,17 @@ pub(crate) fn step(w: &[u32; 80], t: usize, q: State) -> State
     requires { t < 80 }
     ensures { result ≡ step w.now t q }
 {
-    let u = wrapping_add_u32(rotl(q.a, 5), mixing(t, q.b, q.c, q.d));
-    let v = wrapping_add_u32(wrapping_add_u32(u, q.e), constant(t));
+    let f = mixing(t, q.b, q.c, q.d);
+    let v = q
+        .a
+        .rotate_left(5)
+        .wrapping_add(f)
+        .wrapping_add(q.e)
+        .wrapping_add(constant(t));
     State {
-        a: wrapping_add_u32(v, w[t]),
+        a: v.wrapping_add(w[t]),
         b: q.a,
-        c: rotl(q.b, 30),
+        c: q.b.rotate_left(30),
         d: q.c,
         e: q.d,
     }

@@ -10,18 +10,18 @@ ghost use Rattle.std.proofs.lemmas.List.Edits.{sets};
 
 use wire::left;
 
-// All of t from at on, or as much of it as d has room for.
+// All of t from at on, or as much of it as d has room for. Where all fits the length is that of t, which the compiler
+// often knows.
 pub fn copy(d: &mut [u8], at: usize, t: &[u8])
     ensures { d.new ≡ sets d.old at t.now }
 {
-    let room = left(d, at);
-    let mut i = 0;
-    while i < t.len() {
-        if room <= i {
-            return;
+    let n = t.len().min(left(d, at));
+    if n > 0 {
+        if n == t.len() {
+            d[at..at + t.len()].copy_from_slice(t);
+        } else {
+            d[at..at + n].copy_from_slice(&t[..n]);
         }
-        d[at + i] = t[i];
-        i += 1;
     }
 }
 
@@ -29,9 +29,5 @@ pub fn copy(d: &mut [u8], at: usize, t: &[u8])
 pub fn clear(d: &mut [u8])
     ensures { d.new ≡ replicate (length d.old) 0 }
 {
-    let mut i = 0;
-    while i < d.len() {
-        d[i] = 0;
-        i += 1;
-    }
+    d.fill(0);
 }

@@ -1,86 +1,73 @@
 // Reply and cancel.
-ghost use Rattle.std.specs.Prelude.{◌≡◌, List, ℕ};
-ghost use Rattle.inflight.specs.Tables.{table_of, reply_of, cancel_of};
+ghost use Rattle.std.specs.Prelude.{◌≡◌};
+ghost use Rattle.inflight.specs.Tables.{reply_of, cancel_of};
 ghost use Rattle.take_c.specs.TakeFields.{reply_fields, cancel_fields};
 
 use crate::{RelayCancelled, RelayReplied};
-use inflight::{CancelAnswer, FrontNumber, PublisherNumber, ReplyAnswer};
+use inflight::{FrontEnd, FrontNumber, PublisherEnd, PublisherNumber, Table};
+use refusal::Refusal;
 
 // The answers as numbers.
-fn reply_fields(a: ReplyAnswer) -> RelayReplied
+#[tactic(auto, unfolding(crate::specs::TakeFields::reply_fields))]
+fn reply_fields(a: Result<FrontEnd, Refusal>) -> RelayReplied
     ensures { result ≡ reply_fields a }
 {
     match a {
-        ReplyAnswer::Front(l, n) => RelayReplied {
+        Ok(end) => RelayReplied {
             refusal: 0,
-            link: l,
-            number: n,
+            link: end.link,
+            number: end.number,
         },
-        ReplyAnswer::Refused(k) => RelayReplied {
-            refusal: k,
+        Err(refusal) => RelayReplied {
+            refusal: u8::from(refusal),
             link: 0,
             number: FrontNumber(0),
         },
     }
 }
 
-fn cancel_fields(a: CancelAnswer) -> RelayCancelled
+#[tactic(auto, unfolding(crate::specs::TakeFields::cancel_fields))]
+fn cancel_fields(a: Result<PublisherEnd, Refusal>) -> RelayCancelled
     ensures { result ≡ cancel_fields a }
 {
     match a {
-        CancelAnswer::Publisher(p, n) => RelayCancelled {
+        Ok(end) => RelayCancelled {
             refusal: 0,
-            publisher: p,
-            number: n,
+            publisher: end.publisher,
+            number: end.number,
         },
-        CancelAnswer::Refused(k) => RelayCancelled {
-            refusal: k,
+        Err(refusal) => RelayCancelled {
+            refusal: u8::from(refusal),
             publisher: 0,
             number: PublisherNumber(0),
         },
     }
 }
 
-// Reply (publisher, number): hands back link and front number, and frees the request, whatever the
-// times ts are.
+// Reply (publisher, number): hands back link and front number, and frees the request.
 #[unsafe(no_mangle)]
 pub extern "C" fn relay_reply_lent(
-    masks: &mut [u64; 9],
-    numbers: &[i64; 136],
-    places: &[u8; 128],
-    order: &mut [u8; 64],
+    table: &mut Table,
     publisher: u8,
     number: PublisherNumber,
 ) -> RelayReplied
-    ensures { (ts : List ℕ) → (result ≡ reply_fields (reply_of
-        (table_of masks.old numbers.now places.now
-        order.old ts) publisher number).answer)
-        × (table_of masks.new numbers.now places.now order.new ts ≡ (reply_of
-        (table_of masks.old numbers.now places.now
-        order.old ts) publisher number).table) }
+    ensures { (result ≡ reply_fields (reply_of table.old publisher number).answer)
+        × (table.new ≡ (reply_of table.old publisher number).table) }
 {
-    let a = inflight_take::reply(masks, numbers, places, order, publisher, number);
+    let a = inflight_take::reply(table, publisher, number);
     reply_fields(a)
 }
 
-// Cancel (link, number): hands back publisher and publisher number, and frees the request, whatever the
-// times ts are.
+// Cancel (link, number): hands back publisher and publisher number, and frees the request.
 #[unsafe(no_mangle)]
 pub extern "C" fn relay_cancel_lent(
-    masks: &mut [u64; 9],
-    numbers: &[i64; 136],
-    places: &[u8; 128],
-    order: &mut [u8; 64],
+    table: &mut Table,
     link: u8,
     number: FrontNumber,
 ) -> RelayCancelled
-    ensures { (ts : List ℕ) → (result ≡ cancel_fields (cancel_of
-        (table_of masks.old numbers.now places.now
-        order.old ts) link number).answer)
-        × (table_of masks.new numbers.now places.now order.new ts ≡ (cancel_of
-        (table_of masks.old numbers.now places.now
-        order.old ts) link number).table) }
+    ensures { (result ≡ cancel_fields (cancel_of table.old link number).answer)
+        × (table.new ≡ (cancel_of table.old link number).table) }
 {
-    let a = inflight_take::cancel(masks, numbers, places, order, link, number);
+    let a = inflight_take::cancel(table, link, number);
     cancel_fields(a)
 }

@@ -2,10 +2,9 @@
 // wraps one call of the crate `inflight_take` and has its contract; the other calls are in the crates `ask_c` and
 // `drops_c`.
 //
-// The caller keeps the table and lends it, as arrays of crate `inflight`: a call updates them where they
-// stand, copies none, allocates nothing and decides nothing. include/relay.h has the struct of them, and a call
-// on it for each of these. An answer is a struct of numbers: `refusal` is the refusal's number, or 0, and the other
-// fields of a refusal are 0.
+// The caller keeps the table and lends it: a call updates it where it stands, copies none of it, allocates nothing and
+// decides nothing. include/relay.h has the struct, and a call for each of these. An answer is a struct of numbers:
+// `refusal` is the refusal's number, or 0, and the other fields of a refusal are 0.
 #![tactic(auto)]
 
 mod calls;
@@ -14,6 +13,7 @@ pub use calls::{relay_cancel_lent, relay_reply_lent};
 use inflight::{FrontNumber, PublisherNumber};
 
 // A reply that goes to a link and its front number.
+// Kept: numbers and flags in place of a `Result` or an `Option`, since the C interface has these fields.
 #[repr(C)]
 #[derive(Clone, Copy)]
 pub struct RelayReplied {
@@ -23,6 +23,7 @@ pub struct RelayReplied {
 }
 
 // A cancel that goes to a publisher and its number.
+// Kept: numbers and flags in place of a `Result` or an `Option`, since the C interface has these fields.
 #[repr(C)]
 #[derive(Clone, Copy)]
 pub struct RelayCancelled {

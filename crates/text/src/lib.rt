@@ -8,9 +8,10 @@ mod read;
 
 pub use read::read_text;
 
-// A text of len bytes from byte at on, with next past its zeros; or a refusal's number.
+// A text of len bytes from byte at on, with next past its zeros.
 #[derive(Clone, Copy)]
-pub enum Text {
-    Found { at: usize, len: usize, next: usize },
-    Refused(u8),
+pub struct Text {
+    pub at: usize,
+    pub len: usize,
+    pub next: usize,
 }

@@ -8,7 +8,7 @@ ghost use Rattle.std.specs.Prelude.{◌≡◌, ◌+◌, ◌≤◌, ◌<◌, leng
 ghost use Rattle.std.proofs.lemmas.List.Edits.{sets};
 ghost use Rattle.text.specs.TextForm.{text_head, head_size, text_size, text_bytes, put_text};
 
-use store::{put_u8, put_u16, put_u32};
+use store::{put_u8, put_u32};
 use store_bytes::copy;
 use wire::left;
 
@@ -36,27 +36,16 @@ fn put_head(d: &mut [u8], at: usize, n: usize)
 {
     if n < 254 {
         put_u8(d, at, n as u8);
-        return;
+    } else {
+        put_u32(d, at, 254 + 256 * (n as u32));
     }
-    put_u32(d, at, 254 + 256 * (n as u32));
 }
 
-// Up to three zeros.
 fn put_zeros(d: &mut [u8], at: usize, n: usize)
-    requires { (n ≤ 3) × (at + n ≤ length d.old) }
+    requires { at + n ≤ length d.old }
     ensures { d.new ≡ sets d.old at (replicate n 0) }
 {
-    if n == 0 {
-        return;
-    }
-    if n == 1 {
-        put_u8(d, at, 0);
-        return;
-    }
-    put_u16(d, at, 0);
-    if n == 3 {
-        put_u8(d, at + 2, 0);
-    }
+    d[at..at + n].fill(0);
 }
 
 // The text, at a place that has room for it.
@@ -73,14 +62,11 @@ fn store_text(d: &mut [u8], at: usize, text: &[u8])
 }
 
 // Writes the text from byte at of d on, if it fits there and its length fits three bytes.
+#[tactic(auto, unfolding(text::specs::TextForm::put_text))]
 pub fn put_text(d: &mut [u8], at: usize, text: &[u8])
     ensures { d.new ≡ put_text d.old at text.now }
 {
-    if LONGEST < text.len() {
-        return;
+    if text.len() <= LONGEST && text_size(text) <= left(d, at) {
+        store_text(d, at, text);
     }
-    if left(d, at) < text_size(text) {
-        return;
-    }
-    store_text(d, at, text);
 }

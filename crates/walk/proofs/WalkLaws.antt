@@ -11,83 +11,73 @@ use lib.IntN.{pos}
 use lib.ListN.{length, take, drop, length-append, length-drop}
 use lib.Seq.{sets, sets-eq, length-sets, length-take-le, take_at, drop-drop}
 use Rattle.wire.proofs.StoreLaws.{runs-2}
-use Rattle.inflight.specs.declared.AskAnswer.{AskAnswer}
-use Rattle.inflight.specs.declared.AskAnswer.TheVariants as A
-use Rattle.inflight.specs.declared.ReplyAnswer.{ReplyAnswer}
-use Rattle.inflight.specs.declared.ReplyAnswer.TheVariants as R
-use Rattle.inflight.specs.declared.CancelAnswer.{CancelAnswer}
-use Rattle.inflight.specs.declared.CancelAnswer.TheVariants as C
-use Rattle.inflight.specs.declared.DropAnswer.{DropAnswer}
-use Rattle.inflight.specs.declared.DropAnswer.TheVariants as D
-use Rattle.inflight.specs.Tables.{Table, ask_of, reply_of, cancel_of, gone_of, run_out_of}
-use Rattle.inflight.specs.declared.Peer.{Peer}
-use Rattle.inflight.specs.declared.Peer.TheVariants as P
+use Rattle.inflight.specs.declared.FrontEnd.{FrontEnd}
+use Rattle.inflight.specs.declared.PublisherEnd.{PublisherEnd}
+use Rattle.inflight.specs.declared.PublisherNumber.{PublisherNumber}
+use Rattle.refusal.specs.Numbers.{number}
+use Rattle.refusal.specs.declared.Refusal.{Refusal}
+use Rattle.inflight.specs.Tables.{ask_of, reply_of, cancel_of, gone_of, run_out_of}
+use Rattle.inflight.specs.declared.Table.{Table}
 use lib.IntN.{ℤ}
 use Rattle.walk_turn.specs.Lines.{ask_line, reply_line, cancel_line, dropped_lines, call_lines, count_of}
 use Rattle.walk_turn.specs.Lines.{ask_word, reply_word, cancel_word, gone_word, out_word}
 use Rattle.walk_turn.specs.Turn.{Turned, lines_of, after_event, turn_of, lent_slice}
 use Rattle.walk_turn.specs.declared.Event.{Event}
-use Rattle.walk_turn.specs.declared.Event.TheVariants.{Ask, Reply, Cancel, Gone, AskBy, RunOut, End, Cut, Unknown}
+use Rattle.walk_turn.specs.declared.Event.TheVariants.{Ask, Reply, Cancel, Gone, AskBy, RunOut}
+use Rattle.walk_turn.specs.declared.NoEvent.{NoEvent}
+use Rattle.std.specs.Prelude.{Result, Ok, Err}
 use Rattle.walk_turn.proofs.LineLaws.{line-most, pair-most, refused-most, drops-most}
-use Rattle.walk_turn.proofs.TurnLaws.{gone-count, run-out-count}
+use Rattle.walk_turn.proofs.TurnLaws.{word-short, gone-count, run-out-count}
 use Rattle.walk_events.specs.Events.{event_of, record_size, waits}
 use Rattle.walk.specs.Walk.{Outcome, ends, after, walk_from, walk_of, Told}
 use Rattle.walk_events.proofs.EventLaws.{record-fits}
 
 -- ---- the lines of one event are short
 
-ask-short : (a : AskAnswer) → length (ask_line a) ≤ 4096
+ask-short : (a : Result PublisherNumber Refusal) → length (ask_line a) ≤ 4096
 unfolding ask_line
-ask-short (A.Accepted n) = omega (arith, line-most ask_word n.0)
-ask-short (A.Refused k) = omega (arith, refused-most k)
+ask-short (Ok n) = omega (arith, line-most ask_word n.0)
+ask-short (Err k) = omega (arith, refused-most (number k))
 
-reply-short : (a : ReplyAnswer) → length (reply_line a) ≤ 4096
+reply-short : (a : Result FrontEnd Refusal) → length (reply_line a) ≤ 4096
 unfolding reply_line
-reply-short (R.Front l n) = omega (arith, pair-most reply_word (pos l) n.0)
-reply-short (R.Refused k) = omega (arith, refused-most k)
+reply-short (Ok e) = omega (arith, pair-most reply_word (pos e.link) e.number.0)
+reply-short (Err k) = omega (arith, refused-most (number k))
 
-cancel-short : (a : CancelAnswer) → length (cancel_line a) ≤ 4096
+cancel-short : (a : Result PublisherEnd Refusal) → length (cancel_line a) ≤ 4096
 unfolding cancel_line
-cancel-short (C.Publisher p n) = omega (arith, pair-most cancel_word (pos p) n.0)
-cancel-short (C.Refused k) = omega (arith, refused-most k)
+cancel-short (Ok e) = omega (arith, pair-most cancel_word (pos e.publisher) e.number.0)
+cancel-short (Err k) = omega (arith, refused-most (number k))
 
-dropped-short : (word : List ℕ) (a : DropAnswer) (out : List ℤ) → length word ≤ 8 → 2 * count_of a ≤ 128 → length (dropped_lines word a out) ≤ 4096
+dropped-short : (word : List ℕ) (a : Result ℕ Refusal) (out : List ℤ) → length word ≤ 8 → 2 * count_of a ≤ 128 → length (dropped_lines word a out) ≤ 4096
 unfolding dropped_lines
-dropped-short word (D.Count n) out w h = rw length-append (omega (arith, line-most word (pos n), drops-most n out))
-dropped-short word (D.Refused k) out w h = omega (arith, refused-most k)
+dropped-short word (Ok n) out w h = rw length-append (omega (arith, line-most word (pos n), drops-most n out))
+dropped-short word (Err k) out w h = omega (arith, refused-most (number k))
 
-word-short : (peer : Peer) → length (gone_word peer) ≤ 8
-word-short (P.Front l) = omega arith
-word-short (P.Publisher p) = omega arith
-
-pub lines-short : (t : Table) (e : Event) → length (lines_of t e) ≤ 4096
+pub lines-short : (t : Table) (e : Result Event NoEvent) → length (lines_of t e) ≤ 4096
 unfolding lines_of call_lines
-lines-short t (Ask l n p) = ask-short (ask_of t l n p 0 0).answer
-lines-short t (Reply p n) = reply-short (reply_of t p n).answer
-lines-short t (Cancel l n) = cancel-short (cancel_of t l n).answer
-lines-short t (Gone peer) =
+lines-short t (Ok (Ask l n p)) = ask-short (ask_of t l n p 0 0).answer
+lines-short t (Ok (Reply p n)) = reply-short (reply_of t p n).answer
+lines-short t (Ok (Cancel l n)) = cancel-short (cancel_of t l n).answer
+lines-short t (Ok (Gone peer)) =
     dropped-short (gone_word peer) (gone_of t peer lent_slice).answer (gone_of t peer lent_slice).slice (word-short peer)
     (gone-count t peer lent_slice)
-lines-short t (AskBy l n p time timeout) = ask-short (ask_of t l n p time timeout).answer
-lines-short t (RunOut time) =
+lines-short t (Ok (AskBy l n p time timeout)) = ask-short (ask_of t l n p time timeout).answer
+lines-short t (Ok (RunOut time)) =
     dropped-short out_word (run_out_of t time lent_slice).answer (run_out_of t time lent_slice).slice (omega arith)
     (run-out-count t time lent_slice)
-lines-short t End = omega (arith, refused-most 35)
-lines-short t Cut = omega (arith, refused-most 35)
-lines-short t Unknown = omega (arith, refused-most 35)
+lines-short t (Err why) = omega (arith, refused-most 35)
 
 -- an event that names no call leaves the table
-no_call : (t : Table) (e : Event) → record_size e ≡ 0 → after_event t e ≡ t
+no_call : (t : Table) (e : Result Event NoEvent) → record_size e ≡ 0 → after_event t e ≡ t
 unfolding after_event
-no_call t (Ask l n p) h = absurd (omega arith)
-no_call t (Reply p n) h = absurd (omega arith)
-no_call t (Cancel l n) h = absurd (omega arith)
-no_call t (Gone peer) h = absurd (omega arith)
-no_call t (AskBy l n p time timeout) h = absurd (omega arith)
-no_call t (RunOut time) h = absurd (omega arith)
-no_call t End h = refl
-no_call t Cut h = refl
-no_call t Unknown h = refl
+no_call t (Ok (Ask l n p)) h = absurd (omega arith)
+no_call t (Ok (Reply p n)) h = absurd (omega arith)
+no_call t (Ok (Cancel l n)) h = absurd (omega arith)
+no_call t (Ok (Gone peer)) h = absurd (omega arith)
+no_call t (Ok (AskBy l n p time timeout)) h = absurd (omega arith)
+no_call t (Ok (RunOut time)) h = absurd (omega arith)
+no_call t (Err why) h = refl
 
 -- ---- one turn of the definition
 
@@ -124,14 +114,14 @@ front_of text a n e h = rw (e ∙ sym (zero-add (length a))) (take-sets text 0 a
 
 -- ---- what a turn leaves in the scratch text
 
-pub record Lines (t u : Table) (e : Event) (n : ℕ) (text text₁ : List ℕ) : Type 0 where
+pub record Lines (t u : Table) (e : Result Event NoEvent) (n : ℕ) (text text₁ : List ℕ) : Type 0 where
   pub size : n ≡ length (lines_of t e)
   pub table : u ≡ after_event t e
   pub long : length text₁ ≡ length text
   pub enough : n ≤ length text₁
   pub front : take n text₁ ≡ lines_of t e
 
-pub lines-known : {t u : Table} {e : Event} {n : ℕ} {text text₁ : List ℕ}
+pub lines-known : {t u : Table} {e : Result Event NoEvent} {n : ℕ} {text text₁ : List ℕ}
     → (◌≡◌ {A = Turned} (record { table = u; size = n }) (turn_of t e)) × (text₁ ≡ sets text 0 (lines_of t e))
     → 4096 ≤ length text → Lines t u e n text text₁
 unfolding turn_of
@@ -204,7 +194,7 @@ module _ (s : Table) (es before : List ℕ) (last : Bool) where
     unfolding walk_from
     none_left z = left-off (rw z)
 
-    module _ {e : Event} (more : 0 < turns) (reads : e ≡ event_of (drop at es)) where
+    module _ {e : Result Event NoEvent} (more : 0 < turns) (reads : e ≡ event_of (drop at es)) where
       one_more : turns ≡ suc (turns - 1)
       one_more = omega arith
 

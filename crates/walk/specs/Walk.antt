@@ -3,7 +3,7 @@
 use Rattle.std.specs.Prelude.{◌≡◌, ℕ, zero, suc, ◌+◌, ◌-◌, Bool, true, false, List, [], ◌++◌, eqb, ltb, length, drop}
 use Rattle.std.proofs.lemmas.List.Edits.{sets}
 use Rattle.wire.specs.Choice.{pick}
-use Rattle.inflight.specs.Tables.{Table}
+use Rattle.inflight.specs.declared.Table.{Table}
 use Rattle.walk_turn.specs.Turn.{lines_of, after_event}
 use Rattle.walk_events.specs.Events.{event_of, record_size, waits}
 use Rattle.walk.specs.declared.Walked.{Walked}

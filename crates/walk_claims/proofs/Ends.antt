@@ -10,6 +10,8 @@ use lib.Dec.{eqb, leb}
 use lib.ListN.{length, drop, replicate, length-append, length-drop}
 use Rattle.wire.specs.Choice.{pick}
 use Rattle.walk_turn.specs.declared.Event.{Event}
+use Rattle.walk_turn.specs.declared.NoEvent.{NoEvent}
+use Rattle.std.specs.Prelude.{Result}
 use Rattle.walk_events.specs.Events.{body_size, body_of, event_of, waits}
 use Rattle.walk.specs.Walk.{Outcome, walk_of}
 use Rattle.walk_claims.specs.ProgramText.{Fed, fed_next, feed, Piece, feed_all, finish, joined, over}
@@ -17,22 +19,14 @@ use Rattle.walk_claims.proofs.Bounds.{bounds}
 use Rattle.walk_claims.proofs.SameEvent.{event-at}
 
 -- of bytes that are the last, only their end waits
-pick_goes : (b : Bool) (e d : Event) → waits e true ≡ false → waits d true ≡ false → waits (pick b e d) true ≡ false
+pick_goes : (b : Bool) (e d : Result Event NoEvent) → waits e true ≡ false → waits d true ≡ false → waits (pick b e d) true ≡ false
 pick_goes true e d h k = h
 pick_goes false e d h k = k
-
-body-goes : (kind : ℕ) (es : List ℕ) → waits (body_of kind es) true ≡ false
-unfolding body_of
-body-goes kind es =
-    pick_goes (eqb kind 1) _ _ refl
-    (pick_goes (eqb kind 2) _ _ refl
-    (pick_goes (eqb kind 3) _ _ refl
-    (pick_goes (eqb kind 4) _ _ refl (pick_goes (eqb kind 5) _ _ refl (pick_goes (eqb kind 6) _ _ refl refl)))))
 
 event-goes : (x : ℕ) (xs : List ℕ) → waits (event_of (x ∷ xs)) true ≡ false
 event-goes x xs =
     rw (event-at x xs)
-    (pick_goes (eqb (body_size x) 0) _ _ refl (pick_goes (leb (length (x ∷ xs)) (body_size x)) _ _ refl (body-goes x (x ∷ xs))))
+    (pick_goes (eqb (body_size x) 0) _ _ refl (pick_goes (leb (length (x ∷ xs)) (body_size x)) _ _ refl refl))
 
 -- a walk that stopped stays
 fed-stopped : (last : Bool) (s : Fed) (room : ℕ) → s.stopped ≡ true → feed last s [] room ≡ s

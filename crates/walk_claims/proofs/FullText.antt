@@ -10,18 +10,21 @@ use lib.Dec.{eqb, ltb}
 use lib.ListN.{length, drop, length-append, length-drop}
 use Rattle.wire.specs.Choice.{pick}
 use Rattle.inflight.specs.Calls.{Call, table_run}
-use Rattle.inflight.specs.Tables.{Table}
+use Rattle.inflight.specs.declared.Table.{Table}
 use Rattle.walk_turn.specs.Lines.{refused_line}
 use Rattle.walk_turn.specs.Turn.{lines_of, after_event}
 use Rattle.walk_turn.specs.declared.Event.{Event}
-use Rattle.walk_turn.specs.declared.Event.TheVariants.{Ask, Reply, Cancel, Gone, AskBy, RunOut, End, Cut, Unknown}
+use Rattle.walk_turn.specs.declared.Event.TheVariants.{Ask, Reply, Cancel, Gone, AskBy, RunOut}
+use Rattle.walk_turn.specs.declared.NoEvent.{NoEvent}
+use Rattle.walk_turn.specs.declared.NoEvent.TheVariants.{End, Cut, Unknown}
+use Rattle.std.specs.Prelude.{Result, Ok, Err}
 use Rattle.walk_events.specs.Events.{event_of, record_size, waits}
 use Rattle.walk.specs.Walk.{Outcome, ends, after, walk_from}
 use Rattle.walk_claims.specs.ProgramText.{call_before, calls_from, fault_before, fault_from, rendered}
 
 -- ---- the full text
 
-abbrev full_at : Table → Event → List ℕ → List ℕ
+abbrev full_at : Table → Result Event NoEvent → List ℕ → List ℕ
 full_at t e rest = pick (waits e true) [] (lines_of t e ++ pick (eqb (record_size e) 0) [] rest)
 
 unfoldable pub full_from : ℕ → Table → List ℕ → List ℕ
@@ -33,18 +36,18 @@ full_from (suc k) t es = full_at t (event_of es) (full_from k (after_event t (ev
 unfoldable pub told : List Call → Bool → Table → List ℕ
 told cs fault t = rendered cs (table_run t cs) ++ pick fault (refused_line 35) []
 
-full-is-at : (t : Table) (e : Event) (cs : List Call) (fault : Bool) (rest : List ℕ)
+full-is-at : (t : Table) (e : Result Event NoEvent) (cs : List Call) (fault : Bool) (rest : List ℕ)
     → rest ≡ told cs fault (after_event t e) → full_at t e rest ≡ told (call_before e cs) (fault_before e fault) t
 unfolding told rendered table_run lines_of after_event
-full-is-at t (Ask l n p) cs fault rest h = rw (h, append_assoc)
-full-is-at t (Reply p n) cs fault rest h = rw (h, append_assoc)
-full-is-at t (Cancel l n) cs fault rest h = rw (h, append_assoc)
-full-is-at t (Gone peer) cs fault rest h = rw (h, append_assoc)
-full-is-at t (AskBy l n p time timeout) cs fault rest h = rw (h, append_assoc)
-full-is-at t (RunOut time) cs fault rest h = rw (h, append_assoc)
-full-is-at t End cs fault rest h = refl
-full-is-at t Cut cs fault rest h = append-nil (refused_line 35)
-full-is-at t Unknown cs fault rest h = append-nil (refused_line 35)
+full-is-at t (Ok (Ask l n p)) cs fault rest h = rw (h, append_assoc)
+full-is-at t (Ok (Reply p n)) cs fault rest h = rw (h, append_assoc)
+full-is-at t (Ok (Cancel l n)) cs fault rest h = rw (h, append_assoc)
+full-is-at t (Ok (Gone peer)) cs fault rest h = rw (h, append_assoc)
+full-is-at t (Ok (AskBy l n p time timeout)) cs fault rest h = rw (h, append_assoc)
+full-is-at t (Ok (RunOut time)) cs fault rest h = rw (h, append_assoc)
+full-is-at t (Err End) cs fault rest h = refl
+full-is-at t (Err Cut) cs fault rest h = append-nil (refused_line 35)
+full-is-at t (Err Unknown) cs fault rest h = append-nil (refused_line 35)
 
 zero_is : (t : Table) → [] ≡ told [] false t
 unfolding told rendered
@@ -64,7 +67,7 @@ positive (suc n) h = omega arith
 pub shorter : (es : List ℕ) (k : ℕ) → (record_size (event_of es) ≡ 0 → ⊥) → length es ≤ suc k → length (drop (record_size (event_of es)) es) ≤ k
 shorter es k z h = rw length-drop (omega (arith, positive (record_size (event_of es)) z))
 
-at_rest : (t : Table) (e : Event) (r s : List ℕ) → ((record_size e ≡ 0 → ⊥) → r ≡ s) → full_at t e r ≡ full_at t e s
+at_rest : (t : Table) (e : Result Event NoEvent) (r s : List ℕ) → ((record_size e ≡ 0 → ⊥) → r ≡ s) → full_at t e r ≡ full_at t e s
 at_rest t e r s h = go (eqb (record_size e) 0) refl
   where
     go : (b : Bool) → eqb (record_size e) 0 ≡ b → pick (waits e true) [] (lines_of t e ++ pick b [] r) ≡ pick (waits e true) [] (lines_of t e ++ pick b [] s)

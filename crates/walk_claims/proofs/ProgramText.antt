@@ -12,7 +12,8 @@ use lib.ListN.{length, drop}
 use lib.Seq.{drop-append-le}
 use Rattle.wire.specs.Choice.{pick}
 use Rattle.inflight.specs.declared.PublisherNumber.{PublisherNumber}
-use Rattle.inflight.specs.Tables.{Table, Sized, fresh_of}
+use Rattle.inflight.specs.Tables.{Sized, fresh_of}
+use Rattle.inflight.specs.declared.Table.{Table}
 use Rattle.inflight_claims.proofs.ListClaim.{listed}
 use Rattle.walk.specs.Walk.{Outcome, walk_from, walk_of}
 use Rattle.walk_claims.specs.ProgramText.{calls_from, model_text, Fed, fed_first, fed_next, feed, Piece, feed_all, finish, joined, over, ProgramText, ProgramTexts}

@@ -9,10 +9,13 @@ use lib.Dec.{eqb, ltb}
 use lib.ListN.{length, drop, length-append, length-drop}
 use lib.Seq.{drop-append-le, drop-drop}
 use Rattle.wire.specs.Choice.{pick}
-use Rattle.inflight.specs.Tables.{Table}
+use Rattle.inflight.specs.declared.Table.{Table}
 use Rattle.walk_turn.specs.Turn.{lines_of, after_event}
 use Rattle.walk_turn.specs.declared.Event.{Event}
-use Rattle.walk_turn.specs.declared.Event.TheVariants.{Ask, Reply, Cancel, Gone, AskBy, RunOut, End, Cut, Unknown}
+use Rattle.walk_turn.specs.declared.Event.TheVariants.{Ask, Reply, Cancel, Gone, AskBy, RunOut}
+use Rattle.walk_turn.specs.declared.NoEvent.{NoEvent}
+use Rattle.walk_turn.specs.declared.NoEvent.TheVariants.{End, Cut, Unknown}
+use Rattle.std.specs.Prelude.{Result, Ok, Err}
 use Rattle.walk_events.specs.Events.{event_of, record_size, waits}
 use Rattle.walk.specs.Walk.{Outcome, ends, after, walk_from}
 use Rattle.walk_events.proofs.EventLaws.{record-fits}
@@ -39,16 +42,11 @@ unfolding walk_from
 step_is j t es room last = refl
 
 -- what does not wait for more bytes does not wait at the end
-no-wait : (e : Event) (last : Bool) → waits e last ≡ false → waits e true ≡ false
-no-wait (Ask l n p) last h = refl
-no-wait (Reply p n) last h = refl
-no-wait (Cancel l n) last h = refl
-no-wait (Gone peer) last h = refl
-no-wait (AskBy l n p time timeout) last h = refl
-no-wait (RunOut time) last h = refl
-no-wait End last h = h
-no-wait Cut last h = refl
-no-wait Unknown last h = refl
+no-wait : (e : Result Event NoEvent) (last : Bool) → waits e last ≡ false → waits e true ≡ false
+no-wait (Ok e) last h = refl
+no-wait (Err End) last h = h
+no-wait (Err Cut) last h = refl
+no-wait (Err Unknown) last h = refl
 
 module _ (t : Table) (es more : List ℕ) (last : Bool) (k : ℕ) (m : last ≡ true → more ≡ []) (fuel : length (es ++ more) ≤ k) where
   -- nothing is done

@@ -12,7 +12,9 @@ use lib.Seq.{take-append-le, drop-append-le}
 use Rattle.wire.specs.Bytes.{le, part}
 use Rattle.wire.specs.Choice.{first}
 use Rattle.inflight.specs.declared.Peer.TheVariants as P
-use Rattle.walk_turn.specs.declared.Event.TheVariants.{Ask, Reply, Cancel, Gone, AskBy, RunOut, Cut, Unknown}
+use Rattle.walk_turn.specs.declared.Event.TheVariants.{Ask, Reply, Cancel, Gone, AskBy, RunOut}
+use Rattle.walk_turn.specs.declared.NoEvent.TheVariants.{Cut, Unknown}
+use Rattle.std.specs.Prelude.{Ok, Err}
 use Rattle.walk_events.specs.Events.{body_size, body_of, event_of, front_number, publisher_number, waits}
 
 module _ (es more : List ℕ) where
@@ -73,7 +75,7 @@ module _ (es more : List ℕ) where
       kinds-same (eqb kind 1) (eqb kind 2) (eqb kind 3) (eqb kind 4) (eqb kind 5) (eqb kind 6) (eqb kind 7) z h
 
 -- the event at the front of some bytes, of which there is one at least
-pub event-at : (x : ℕ) (xs : List ℕ) → event_of (x ∷ xs) ≡ first ((eqb (body_size x) 0, Unknown) ∷ (leb (length (x ∷ xs)) (body_size x), Cut) ∷ []) (body_of x (x ∷ xs))
+pub event-at : (x : ℕ) (xs : List ℕ) → event_of (x ∷ xs) ≡ first ((eqb (body_size x) 0, Err Unknown) ∷ (leb (length (x ∷ xs)) (body_size x), Err Cut) ∷ []) (Ok (body_of x (x ∷ xs)))
 unfolding event_of
 event-at x xs = rw (ne_eqb (length (x ∷ xs)) 0 (λ q. omega arith))
 
@@ -83,14 +85,14 @@ event-more [] more h = absurd (true≢false h)
 event-more (x ∷ xs) more h = event-at x (xs ++ more) ∙ go (eqb (body_size x) 0) (leb (length (x ∷ xs)) (body_size x)) refl refl (rw (event-at x xs) at h) ∙ sym (event-at x xs)
   where
     go : (a b : Bool) → eqb (body_size x) 0 ≡ a → leb (length (x ∷ xs)) (body_size x) ≡ b
-        → waits (first ((a, Unknown) ∷ (b, Cut) ∷ []) (body_of x (x ∷ xs))) false ≡ false
-        → first ((a, Unknown) ∷ (leb (length (x ∷ (xs ++ more))) (body_size x), Cut) ∷ []) (body_of x (x ∷ (xs ++ more)))
-        ≡ first ((a, Unknown) ∷ (b, Cut) ∷ []) (body_of x (x ∷ xs))
+        → waits (first ((a, Err Unknown) ∷ (b, Err Cut) ∷ []) (Ok (body_of x (x ∷ xs)))) false ≡ false
+        → first ((a, Err Unknown) ∷ (leb (length (x ∷ (xs ++ more))) (body_size x), Err Cut) ∷ []) (Ok (body_of x (x ∷ (xs ++ more))))
+        ≡ first ((a, Err Unknown) ∷ (b, Err Cut) ∷ []) (Ok (body_of x (x ∷ xs)))
     go true b p q w = refl
     go false true p q w = absurd (true≢false w)
     go false false p q w =
         let l = leb-false (length (x ∷ xs)) (body_size x) q in
-        rw (lt-leb (length (x ∷ (xs ++ more))) (body_size x) (omega (arith, length-append (x ∷ xs) more))) (body_same (x ∷ xs) more x p (omega arith))
+        rw (lt-leb (length (x ∷ (xs ++ more))) (body_size x) (omega (arith, length-append (x ∷ xs) more))) (ap Ok (body_same (x ∷ xs) more x p (omega arith)))
 
 -- the same, where nothing follows the last bytes
 pub same-event : (es more : List ℕ) (last : Bool) → (last ≡ true → more ≡ []) → waits (event_of es) last ≡ false → event_of (es ++ more) ≡ event_of es

@@ -1,7 +1,7 @@
 -- What a caller may rely on, of every table, every list of bytes and any room.
 -- Assumes nothing.
 use Rattle.std.specs.Prelude.{◌≡◌, ℕ, ◌≤◌, ◌<◌, Bool, false, List, length}
-use Rattle.inflight.specs.Tables.{Table}
+use Rattle.inflight.specs.declared.Table.{Table}
 use Rattle.walk_events.specs.Events.{event_of, waits}
 use Rattle.walk.specs.Walk.{walk_of}
 

@@ -3,20 +3,23 @@
 -- two calls. Kind 1 prints as before asks brought a time, and "kind 6 prints as kind 1" (A2): its line is an ask's too.
 -- Kind 7 prints `out`, with the answer of a run-out.
 -- Assumes nothing.
-use Rattle.std.specs.Prelude.{◌≡◌, ℕ, ◌≤◌, List, ◌∷◌, length, get_or}
+use Rattle.std.specs.Prelude.{◌≡◌, ℕ, ◌≤◌, List, ◌∷◌, length, get_or, Result}
 use Rattle.wire.specs.Bytes.{le, part}
-use Rattle.inflight.specs.Tables.{Table, Dropped, ask_of, run_out_of}
+use Rattle.inflight.specs.Tables.{Dropped, ask_of, run_out_of}
+use Rattle.inflight.specs.declared.Table.{Table}
 use Rattle.inflight_claims.specs.TwoCalls.{closed_of, lost_of}
 use Rattle.inflight_claims.specs.OldAsks.{old_ask_of}
-use Rattle.inflight.specs.declared.AskAnswer.{AskAnswer}
+use Rattle.inflight.specs.declared.PublisherNumber.{PublisherNumber}
+use Rattle.refusal.specs.declared.Refusal.{Refusal}
 use Rattle.walk_turn.specs.Lines.{closed_word, lost_word, out_word, ask_line, dropped_lines}
 use Rattle.walk_turn.specs.Turn.{lines_of, after_event, lent_slice}
 use Rattle.walk_turn.specs.declared.Event.{Event}
+use Rattle.walk_turn.specs.declared.NoEvent.{NoEvent}
 use Rattle.walk_events.specs.Events.{event_of, record_size, front_number}
 
 -- an event whose record is of n bytes, whose lines are a word and what a call answered, and after which the table is
 -- that call's
-pub record Printed (t : Table) (e : Event) (n : ℕ) (word : List ℕ) (r : Dropped) : Type 0 where
+pub record Printed (t : Table) (e : Result Event NoEvent) (n : ℕ) (word : List ℕ) (r : Dropped) : Type 0 where
   pub size : record_size e ≡ n
   pub lines : lines_of t e ≡ dropped_lines word r.answer r.slice
   pub after : after_event t e ≡ r.table
@@ -29,7 +32,7 @@ pub record KindsAsBefore : Type 0 where
       → Printed t (event_of (5 ∷ p ∷ rest)) 2 lost_word (lost_of t p lent_slice)
 
 -- an event whose record is of n bytes, whose line is an ask's answer, and after which the table is u
-pub record AskPrinted (t : Table) (e : Event) (n : ℕ) (a : AskAnswer) (u : Table) : Type 0 where
+pub record AskPrinted (t : Table) (e : Result Event NoEvent) (n : ℕ) (a : Result PublisherNumber Refusal) (u : Table) : Type 0 where
   pub size : record_size e ≡ n
   pub line : lines_of t e ≡ ask_line a
   pub after : after_event t e ≡ u

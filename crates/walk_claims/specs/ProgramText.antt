@@ -2,32 +2,33 @@
 -- every list of event bytes, the text that the walk gives is: the events decoded into calls, the model run on them, and
 -- what is heard rendered; and `no 35` at an unknown kind or a cut record.
 -- Assumes nothing.
-use Rattle.std.specs.Prelude.{◌≡◌, ℕ, zero, suc, ◌+◌, ◌≤◌, Bool, true, false, ◌||◌, List, [], ◌∷◌, ◌++◌, eqb, pos, length, drop, replicate}
+use Rattle.std.specs.Prelude.{◌≡◌, ℕ, zero, suc, ◌+◌, ◌≤◌, Bool, true, false, ◌||◌, List, [], ◌∷◌, ◌++◌, eqb, pos, length, drop, replicate, Result, Ok, Err}
 use Rattle.wire.specs.Choice.{pick}
 use Rattle.inflight.specs.Model.{empty}
 use Rattle.inflight.specs.Calls.{Call, Heard, ask, old_ask, reply, cancel, gone, run_out, model_run}
 use Rattle.inflight.specs.declared.PublisherNumber.{PublisherNumber}
-use Rattle.inflight.specs.Tables.{Table, Sized, fresh_of}
+use Rattle.inflight.specs.Tables.{Sized, fresh_of}
+use Rattle.inflight.specs.declared.Table.{Table}
 use Rattle.walk_turn.specs.Lines.{call_lines, refused_line}
 use Rattle.walk_turn.specs.Turn.{lent_slice}
 use Rattle.walk_turn.specs.declared.Event.{Event}
-use Rattle.walk_turn.specs.declared.Event.TheVariants.{Ask, Reply, Cancel, Gone, AskBy, RunOut, End, Cut, Unknown}
+use Rattle.walk_turn.specs.declared.Event.TheVariants.{Ask, Reply, Cancel, Gone, AskBy, RunOut}
+use Rattle.walk_turn.specs.declared.NoEvent.{NoEvent}
+use Rattle.walk_turn.specs.declared.NoEvent.TheVariants.{End, Cut, Unknown}
 use Rattle.walk_events.specs.Events.{event_of, record_size}
 use Rattle.walk.specs.Walk.{Outcome, walk_of}
 
 -- ---- the events decoded
 
 -- the call of an event, before the calls behind it; none at the end, at a cut record and at an unknown kind
-abbrev pub call_before : Event → List Call → List Call
-call_before (Ask l n p) cs = old_ask l n p ∷ cs
-call_before (Reply p n) cs = reply p n ∷ cs
-call_before (Cancel l n) cs = cancel l n ∷ cs
-call_before (Gone peer) cs = gone peer lent_slice ∷ cs
-call_before (AskBy l n p time timeout) cs = ask l n p time timeout ∷ cs
-call_before (RunOut time) cs = run_out time lent_slice ∷ cs
-call_before End cs = []
-call_before Cut cs = []
-call_before Unknown cs = []
+abbrev pub call_before : Result Event NoEvent → List Call → List Call
+call_before (Ok (Ask l n p)) cs = old_ask l n p ∷ cs
+call_before (Ok (Reply p n)) cs = reply p n ∷ cs
+call_before (Ok (Cancel l n)) cs = cancel l n ∷ cs
+call_before (Ok (Gone peer)) cs = gone peer lent_slice ∷ cs
+call_before (Ok (AskBy l n p time timeout)) cs = ask l n p time timeout ∷ cs
+call_before (Ok (RunOut time)) cs = run_out time lent_slice ∷ cs
+call_before (Err why) cs = []
 
 -- the calls that some bytes name, at most `turns` of them
 unfoldable pub calls_from : ℕ → List ℕ → List Call
@@ -35,16 +36,11 @@ calls_from zero es = []
 calls_from (suc turns) es = call_before (event_of es) (calls_from turns (drop (record_size (event_of es)) es))
 
 -- whether they end at an unknown kind or a cut record
-abbrev pub fault_before : Event → Bool → Bool
-fault_before (Ask l n p) b = b
-fault_before (Reply p n) b = b
-fault_before (Cancel l n) b = b
-fault_before (Gone peer) b = b
-fault_before (AskBy l n p time timeout) b = b
-fault_before (RunOut time) b = b
-fault_before End b = false
-fault_before Cut b = true
-fault_before Unknown b = true
+abbrev pub fault_before : Result Event NoEvent → Bool → Bool
+fault_before (Ok e) b = b
+fault_before (Err End) b = false
+fault_before (Err Cut) b = true
+fault_before (Err Unknown) b = true
 
 unfoldable pub fault_from : ℕ → List ℕ → Bool
 fault_from zero es = false

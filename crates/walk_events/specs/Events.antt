@@ -1,6 +1,6 @@
 -- The event format (document 01, "Program: relay walk"): a kind byte, then a body whose length the kind fixes.
 -- Assumes nothing.
-use Rattle.std.specs.Prelude.{ℕ, Bool, true, false, not, List, [], ◌∷◌, eqb, leb, length, get_or}
+use Rattle.std.specs.Prelude.{ℕ, Bool, true, false, not, List, [], ◌∷◌, eqb, leb, length, get_or, Option, Some, None, Result, Ok, Err}
 use Rattle.std.specs.Int.{w64}
 use Rattle.std.proofs.Common.{to_z}
 use Rattle.wire.specs.Bytes.{le, part}
@@ -9,7 +9,9 @@ use Rattle.inflight.specs.declared.FrontNumber.{FrontNumber}
 use Rattle.inflight.specs.declared.PublisherNumber.{PublisherNumber}
 use Rattle.inflight.specs.declared.Peer.TheVariants as P
 use Rattle.walk_turn.specs.declared.Event.{Event}
-use Rattle.walk_turn.specs.declared.Event.TheVariants.{Ask, Reply, Cancel, Gone, AskBy, RunOut, End, Cut, Unknown}
+use Rattle.walk_turn.specs.declared.Event.TheVariants.{Ask, Reply, Cancel, Gone, AskBy, RunOut}
+use Rattle.walk_turn.specs.declared.NoEvent.{NoEvent}
+use Rattle.walk_turn.specs.declared.NoEvent.TheVariants.{End, Cut, Unknown}
 
 -- "1 ask: link 1, number 8, publisher 1. 2 reply: publisher 1, number 8. 3 cancel: link 1, number 8. 4 closed: link
 -- 1. 5 lost: publisher 1"; "kind 6 is ask with time 8 and timeout 4 added after the publisher .., kind 7 is the run-out
@@ -48,36 +50,34 @@ body_of kind es =
     (RunOut (le (part es 1 8)))
 
 -- what stands at the front of some bytes: their end, an unknown kind, a record cut off, or an event
-unfoldable pub event_of : List ℕ → Event
+unfoldable pub event_of : List ℕ → Result Event NoEvent
 event_of es =
     first
-    ((eqb (length es) 0, End)
-    ∷ (eqb (body_size (get_or es 0 0)) 0, Unknown)
-    ∷ (leb (length es) (body_size (get_or es 0 0)), Cut)
+    ((eqb (length es) 0, Err End)
+    ∷ (eqb (body_size (get_or es 0 0)) 0, Err Unknown)
+    ∷ (leb (length es) (body_size (get_or es 0 0)), Err Cut)
     ∷ [])
-    (body_of (get_or es 0 0) es)
+    (Ok (body_of (get_or es 0 0) es))
 
 -- the size of an event's record, and 0 where there is none
-abbrev pub record_size : Event → ℕ
-record_size (Ask l n p) = 11
-record_size (Reply p n) = 10
-record_size (Cancel l n) = 10
-record_size (Gone peer) = 2
-record_size (AskBy l n p time timeout) = 23
-record_size (RunOut time) = 9
-record_size End = 0
-record_size Cut = 0
-record_size Unknown = 0
+abbrev pub record_size : Result Event NoEvent → ℕ
+record_size (Ok (Ask l n p)) = 11
+record_size (Ok (Reply p n)) = 10
+record_size (Ok (Cancel l n)) = 10
+record_size (Ok (Gone peer)) = 2
+record_size (Ok (AskBy l n p time timeout)) = 23
+record_size (Ok (RunOut time)) = 9
+record_size (Err why) = 0
+
+-- the size where there is an event
+abbrev pub size_of : Result Event NoEvent → Option ℕ
+size_of (Ok e) = Some (record_size (Ok e))
+size_of (Err why) = None
 
 -- "until they end": at the end of the bytes nothing is to do, and a record that is cut off waits for the next bytes,
 -- unless these are the last
-abbrev pub waits : Event → Bool → Bool
-waits (Ask l n p) last = false
-waits (Reply p n) last = false
-waits (Cancel l n) last = false
-waits (Gone peer) last = false
-waits (AskBy l n p time timeout) last = false
-waits (RunOut time) last = false
-waits End last = true
-waits Cut last = not last
-waits Unknown last = false
+abbrev pub waits : Result Event NoEvent → Bool → Bool
+waits (Ok e) last = false
+waits (Err End) last = true
+waits (Err Cut) last = not last
+waits (Err Unknown) last = false

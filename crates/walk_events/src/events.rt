@@ -1,48 +1,20 @@
 // The event format: a kind byte, then a body whose length the kind fixes.
 ghost use Rattle.std.specs.Prelude.{◌≡◌, get_or};
-ghost use Rattle.walk_events.specs.Events.{body_size, body_of, front_number, publisher_number, event_of, record_size, waits};
+ghost use Rattle.walk_events.specs.Events.{body_size, body_of, front_number, publisher_number, event_of, size_of, waits};
+ghost use Rattle.walk_events.specs.Kinds.{number};
 
+use crate::kind::Kind;
 use inflight::{FrontNumber, Peer, PublisherNumber};
-use walk_turn::Event;
+use walk_turn::{Event, NoEvent};
 use wire::{i64_at, u32_at, u64_at};
-
-// How long the body of a kind is, and 0 for an unknown kind.
-fn body_size(kind: u8) -> usize
-    ensures { result ≡ body_size kind }
-{
-    if kind == 1 {
-        return 10;
-    }
-    if kind == 2 {
-        return 9;
-    }
-    if kind == 3 {
-        return 9;
-    }
-    if kind == 4 {
-        return 1;
-    }
-    if kind == 5 {
-        return 1;
-    }
-    if kind == 6 {
-        return 22;
-    }
-    if kind == 7 {
-        return 8;
-    }
-    0
-}
 
 fn byte_at(s: &[u8], at: usize) -> u8
     ensures { result ≡ get_or s.now at 0 }
 {
-    if s.len() <= at {
-        return 0;
-    }
-    s[at]
+    s.get(at).copied().unwrap_or(0)
 }
 
+// Kept: two functions of one line; one for both types would have to be told what it makes, and be no plainer.
 fn front_number(s: &[u8]) -> FrontNumber
     ensures { result ≡ front_number s.now }
 {
@@ -55,86 +27,80 @@ fn publisher_number(s: &[u8]) -> PublisherNumber
     PublisherNumber(i64_at(s, 2))
 }
 
-// The event of one of the seven kinds, whose record stands at the front of s.
-fn body(kind: u8, s: &[u8]) -> Event
-    ensures { result ≡ body_of kind s.now }
-{
-    let place = byte_at(s, 1);
-    if kind == 1 {
-        return Event::Ask(place, front_number(s), byte_at(s, 10));
+impl Kind {
+    // How long the body of a kind is.
+    #[tactic(auto, unfolding(crate::specs::Events::body_size))]
+    fn body_size(self) -> usize
+        ensures { result ≡ body_size (number self) }
+    {
+        match self {
+            Kind::Ask => 10,
+            Kind::Reply | Kind::Cancel => 9,
+            Kind::Closed | Kind::Lost => 1,
+            Kind::AskBy => 22,
+            Kind::RunOut => 8,
+        }
     }
-    if kind == 2 {
-        return Event::Reply(place, publisher_number(s));
+
+    // The event of this kind, whose record stands at the front of s.
+    #[tactic(auto, unfolding(crate::specs::Events::body_of))]
+    fn event(self, s: &[u8]) -> Event
+        ensures { result ≡ body_of (number self) s.now }
+    {
+        let place = byte_at(s, 1);
+        match self {
+            Kind::Ask => Event::Ask(place, front_number(s), byte_at(s, 10)),
+            Kind::Reply => Event::Reply(place, publisher_number(s)),
+            Kind::Cancel => Event::Cancel(place, front_number(s)),
+            Kind::Closed => Event::Gone(Peer::Front(place)),
+            Kind::Lost => Event::Gone(Peer::Publisher(place)),
+            Kind::AskBy => Event::AskBy(
+                place,
+                front_number(s),
+                byte_at(s, 10),
+                u64_at(s, 11),
+                u32_at(s, 19),
+            ),
+            Kind::RunOut => Event::RunOut(u64_at(s, 1)),
+        }
     }
-    if kind == 3 {
-        return Event::Cancel(place, front_number(s));
-    }
-    if kind == 4 {
-        return Event::Gone(Peer::Front(place));
-    }
-    if kind == 5 {
-        return Event::Gone(Peer::Publisher(place));
-    }
-    if kind == 6 {
-        return Event::AskBy(
-            place,
-            front_number(s),
-            byte_at(s, 10),
-            u64_at(s, 11),
-            u32_at(s, 19),
-        );
-    }
-    Event::RunOut(u64_at(s, 1))
 }
 
 // What stands at the front of s.
-pub fn event(s: &[u8]) -> Event
+pub fn event(s: &[u8]) -> Result<Event, NoEvent>
     ensures { result ≡ event_of s.now }
 {
-    if s.len() == 0 {
-        return Event::End;
+    let Some(&first) = s.first() else {
+        return Err(NoEvent::End);
+    };
+    let kind = Kind::try_from(first)?;
+    if s.len() <= kind.body_size() {
+        return Err(NoEvent::Cut);
     }
-    let kind = byte_at(s, 0);
-    let size = body_size(kind);
-    if size == 0 {
-        return Event::Unknown;
-    }
-    if s.len() <= size {
-        return Event::Cut;
-    }
-    body(kind, s)
+    Ok(kind.event(s))
 }
 
-// The size of a whole record, and 0 where there is none.
-pub fn record_size(e: Event) -> usize
-    ensures { result ≡ record_size e }
+// The size of a whole record, where there is one.
+pub fn record_size(e: Result<Event, NoEvent>) -> Option<usize>
+    ensures { result ≡ size_of e }
 {
     match e {
-        Event::Ask(_, _, _) => 11,
-        Event::Reply(_, _) => 10,
-        Event::Cancel(_, _) => 10,
-        Event::Gone(_) => 2,
-        Event::AskBy(_, _, _, _, _) => 23,
-        Event::RunOut(_) => 9,
-        Event::End => 0,
-        Event::Cut => 0,
-        Event::Unknown => 0,
+        Ok(Event::Ask(_, _, _)) => Some(11),
+        Ok(Event::Reply(_, _) | Event::Cancel(_, _)) => Some(10),
+        Ok(Event::Gone(_)) => Some(2),
+        Ok(Event::AskBy(_, _, _, _, _)) => Some(23),
+        Ok(Event::RunOut(_)) => Some(9),
+        Err(_) => None,
     }
 }
 
 // Whether there is nothing to do until more bytes come.
-pub fn must_wait(e: Event, last: bool) -> bool
+pub fn must_wait(e: Result<Event, NoEvent>, last: bool) -> bool
     ensures { result ≡ waits e last }
 {
     match e {
-        Event::Ask(_, _, _) => false,
-        Event::Reply(_, _) => false,
-        Event::Cancel(_, _) => false,
-        Event::Gone(_) => false,
-        Event::AskBy(_, _, _, _, _) => false,
-        Event::RunOut(_) => false,
-        Event::End => true,
-        Event::Cut => !last,
-        Event::Unknown => false,
+        Ok(_) | Err(NoEvent::Unknown) => false,
+        Err(NoEvent::End) => true,
+        Err(NoEvent::Cut) => !last,
     }
 }

@@ -5,5 +5,6 @@
 #![tactic(auto)]
 
 mod events;
+mod kind;
 
 pub use events::{event, must_wait, record_size};

@@ -11,6 +11,7 @@ pub use steps::{goes_on, no_more, start};
 
 // What the next step starts from, besides the table, which is lent to it: how many event bytes wait at the buffer's
 // front, whether the events have ended, and whether there is a next step.
+// Kept: `ended` and `more` are flags, since `Stepped` and `Runs` (walk_steps) speak of both after the last step too.
 #[derive(Clone, Copy)]
 pub struct Progress {
     pub have: usize,

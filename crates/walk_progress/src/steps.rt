@@ -5,6 +5,7 @@ ghost use Rattle.walk_progress.specs.Start.{start_of};
 use crate::Progress;
 
 // Nothing waiting, and more to come.
+#[tactic(auto, unfolding(crate::specs::Start::start_of))]
 pub fn start() -> Progress
     ensures { result ≡ start_of }
 {
@@ -19,27 +20,12 @@ pub fn start() -> Progress
 pub fn no_more(ended: bool, have: usize, room: usize, count: usize) -> bool
     ensures { result ≡ (ended || (ltb have room && eqb count 0)) }
 {
-    if ended {
-        return true;
-    }
-    if have < room {
-        return count == 0;
-    }
-    false
+    ended || (have < room && count == 0)
 }
 
 // Whether there is a next step: not after a write that failed, nor once the walk stopped, nor once all is consumed.
 pub fn goes_on(written: bool, stopped: bool, last: bool, left: usize) -> bool
     ensures { result ≡ (written && not (stopped || (last && eqb left 0))) }
 {
-    if !written {
-        return false;
-    }
-    if stopped {
-        return false;
-    }
-    if last {
-        return left != 0;
-    }
-    true
+    written && !(stopped || (last && left == 0))
 }

@@ -10,7 +10,8 @@ use lib.Dec.{eqb, ltb}
 use lib.ListN.{length, take, drop, length-append, length-drop, length-take}
 use lib.Seq.{sets, length-sets, sets-eq, take-append_seam}
 use Rattle.wire.specs.Bytes.{part}
-use Rattle.inflight.specs.Tables.{Table, Sized, fresh_of}
+use Rattle.inflight.specs.Tables.{Sized, fresh_of}
+use Rattle.inflight.specs.declared.Table.{Table}
 use Rattle.walk_claims.specs.ProgramText.{Fed, fed_first, feed, Piece, feed_all, finish, joined, model_text, over}
 use Rattle.walk_claims.proofs.ProgramText.{program-texts}
 use Rattle.walk_progress.specs.declared.Progress.{Progress}

@@ -8,7 +8,7 @@ use lib.Dec.{eqb, ltb}
 use lib.ListN.{length, take, drop, length-take, length-drop}
 use lib.Seq.{sets, length-sets, length-take-le, take-add}
 use Rattle.wire.specs.Bytes.{part}
-use Rattle.inflight.specs.Tables.{Table}
+use Rattle.inflight.specs.declared.Table.{Table}
 use Rattle.walk.specs.Walk.{Outcome, walk_of, Told}
 use Rattle.walk.specs.declared.Walked.{Walked}
 use Rattle.walk_claims.specs.ProgramText.{Fed, feed}

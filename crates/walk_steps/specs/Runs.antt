@@ -2,7 +2,8 @@
 -- Assumes nothing.
 use Rattle.std.specs.Prelude.{◌≡◌, ℕ, ◌≤◌, true, false, List, [], ◌∷◌, ◌++◌, length, take}
 use Rattle.wire.specs.Bytes.{part}
-use Rattle.inflight.specs.Tables.{Table, Sized, fresh_of}
+use Rattle.inflight.specs.Tables.{Sized, fresh_of}
+use Rattle.inflight.specs.declared.Table.{Table}
 use Rattle.walk_claims.specs.ProgramText.{Fed, fed_first, Piece, feed_all, finish, joined, model_text}
 use Rattle.walk_progress.specs.declared.Progress.{Progress}
 use Rattle.walk_progress.specs.Start.{one, start_of}

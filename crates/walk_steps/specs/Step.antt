@@ -3,7 +3,7 @@
 use Rattle.std.specs.Prelude.{◌≡◌, ℕ, ◌+◌, ◌≤◌, min, Bool, true, false, not, ◌&&◌, ◌||◌, List, [], eqb, ltb, length, take}
 use Rattle.std.proofs.lemmas.List.Edits.{sets}
 use Rattle.wire.specs.Bytes.{part}
-use Rattle.inflight.specs.Tables.{Table}
+use Rattle.inflight.specs.declared.Table.{Table}
 use Rattle.walk_claims.specs.ProgramText.{Fed, feed}
 use Rattle.walk_progress.specs.declared.Progress.{Progress}
 

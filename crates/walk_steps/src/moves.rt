@@ -1,27 +1,17 @@
 // Bytes moved into the events' buffer and within it.
-ghost use Rattle.std.specs.Prelude.{◌≡◌, ◌-◌, ◌≤◌, min, length};
+ghost use Rattle.std.specs.Prelude.{◌≡◌, ◌-◌, ◌≤◌, length};
 ghost use Rattle.std.proofs.lemmas.List.Edits.{sets};
 ghost use Rattle.wire.specs.Bytes.{part};
 ghost use Rattle.walk_steps.specs.Step.{Filled, FilledUnless};
 
 use std::io::Read;
 
-pub(crate) fn least(a: usize, b: usize) -> usize
-    ensures { result ≡ min a b }
-{
-    if a < b { a } else { b }
-}
-
 // Reads once behind the first `have` bytes, and hands back how many there are then. A read that fails brings nothing.
 fn read_more(input: &mut impl Read, buf: &mut [u8], have: usize) -> usize
     requires { have ≤ length buf.old }
     ensures { Filled have buf.old result buf.new }
 {
-    let got = match input.read(&mut buf[have..]) {
-        Ok(n) => n,
-        Err(_) => 0,
-    };
-    have + got
+    have + input.read(&mut buf[have..]).unwrap_or(0)
 }
 
 // The same, but that nothing is read once the events have ended.
@@ -40,10 +30,5 @@ pub(crate) fn move_front(buf: &mut [u8], from: usize, end: usize)
     requires { (from ≤ end) × (end ≤ length buf.old) }
     ensures { buf.new ≡ sets buf.old 0 (part buf.old from (end - from)) }
 {
-    let n = end - from;
-    let mut i: usize = 0;
-    while i < n {
-        buf[i] = buf[from + i];
-        i += 1;
-    }
+    buf.copy_within(from..end, 0);
 }

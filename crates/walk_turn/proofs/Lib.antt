@@ -1,3 +1,4 @@
--- Laws that several proofs cite, and those of an event's lines for the crates above.
+-- Laws that several proofs cite.
 pub mod LineLaws
 pub mod TurnLaws
+pub mod WroteLaws

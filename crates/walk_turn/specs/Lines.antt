@@ -1,18 +1,15 @@
 -- The lines of the relay walk (document 01, "Program: relay walk"), as ASCII codes.
 -- Assumes nothing.
-use Rattle.std.specs.Prelude.{ℕ, zero, suc, ◌+◌, ◌*◌, ◌/◌, ◌%◌, List, [], ◌∷◌, ◌++◌, ltb, ℤ, pos, negsuc, get_or}
+use Rattle.std.specs.Prelude.{ℕ, zero, suc, ◌+◌, ◌*◌, ◌/◌, ◌%◌, List, [], ◌∷◌, ◌++◌, ltb, ℤ, pos, negsuc, get_or, Result, Ok, Err}
 use Rattle.wire.specs.Choice.{pick}
 use Rattle.inflight.specs.Calls.{Call, Heard, ask, reply, cancel, gone, run_out, asked, replied, cancelled, dropped}
 use Rattle.inflight.specs.declared.Peer.{Peer}
 use Rattle.inflight.specs.declared.Peer.TheVariants as P
-use Rattle.inflight.specs.declared.AskAnswer.{AskAnswer}
-use Rattle.inflight.specs.declared.AskAnswer.TheVariants as A
-use Rattle.inflight.specs.declared.ReplyAnswer.{ReplyAnswer}
-use Rattle.inflight.specs.declared.ReplyAnswer.TheVariants as R
-use Rattle.inflight.specs.declared.CancelAnswer.{CancelAnswer}
-use Rattle.inflight.specs.declared.CancelAnswer.TheVariants as C
-use Rattle.inflight.specs.declared.DropAnswer.{DropAnswer}
-use Rattle.inflight.specs.declared.DropAnswer.TheVariants as D
+use Rattle.inflight.specs.declared.FrontEnd.{FrontEnd}
+use Rattle.inflight.specs.declared.PublisherEnd.{PublisherEnd}
+use Rattle.inflight.specs.declared.PublisherNumber.{PublisherNumber}
+use Rattle.refusal.specs.Numbers.{number}
+use Rattle.refusal.specs.declared.Refusal.{Refusal}
 
 -- the digits of n, the highest first, at most `more` besides the last one
 unfoldable pub digits : ℕ → ℕ → List ℕ
@@ -65,19 +62,19 @@ unfoldable pub refused_line : ℕ → List ℕ
 refused_line k = line no_word (pos k)
 
 -- "`ask` shows the publisher number"
-unfoldable pub ask_line : AskAnswer → List ℕ
-ask_line (A.Accepted n) = line ask_word n.0
-ask_line (A.Refused k) = refused_line k
+unfoldable pub ask_line : Result PublisherNumber Refusal → List ℕ
+ask_line (Ok n) = line ask_word n.0
+ask_line (Err k) = refused_line (number k)
 
 -- "`reply` link and front number"
-unfoldable pub reply_line : ReplyAnswer → List ℕ
-reply_line (R.Front l n) = pair_line reply_word (pos l) n.0
-reply_line (R.Refused k) = refused_line k
+unfoldable pub reply_line : Result FrontEnd Refusal → List ℕ
+reply_line (Ok e) = pair_line reply_word (pos e.link) e.number.0
+reply_line (Err k) = refused_line (number k)
 
 -- "`cancel` publisher and its number"
-unfoldable pub cancel_line : CancelAnswer → List ℕ
-cancel_line (C.Publisher p n) = pair_line cancel_word (pos p) n.0
-cancel_line (C.Refused k) = refused_line k
+unfoldable pub cancel_line : Result PublisherEnd Refusal → List ℕ
+cancel_line (Ok e) = pair_line cancel_word (pos e.publisher) e.number.0
+cancel_line (Err k) = refused_line (number k)
 
 -- "`drop` lines with the other end": the i-th, of the numbers in the lent slice
 unfoldable pub drop_line : List ℤ → ℕ → List ℕ
@@ -89,14 +86,14 @@ drop_lines zero ends = []
 drop_lines (suc n) ends = drop_lines n ends ++ drop_line ends n
 
 -- "`lost` and `closed` a count, then that many `drop` lines"; a run-out "prints `out` and the count, then `drop` lines"
-unfoldable pub dropped_lines : List ℕ → DropAnswer → List ℤ → List ℕ
-dropped_lines word (D.Count n) ends = line word (pos n) ++ drop_lines n ends
-dropped_lines word (D.Refused k) ends = refused_line k
+unfoldable pub dropped_lines : List ℕ → Result ℕ Refusal → List ℤ → List ℕ
+dropped_lines word (Ok n) ends = line word (pos n) ++ drop_lines n ends
+dropped_lines word (Err k) ends = refused_line (number k)
 
 -- how many requests an answer says were freed
-abbrev pub count_of : DropAnswer → ℕ
-count_of (D.Count n) = n
-count_of (D.Refused k) = 0
+abbrev pub count_of : Result ℕ Refusal → ℕ
+count_of (Ok n) = n
+count_of (Err k) = 0
 
 -- the word of a front link that is gone, and of a publisher: "event kinds 4 and 5 print as before" (document 02, A4)
 abbrev pub gone_word : Peer → List ℕ

@@ -1,7 +1,7 @@
 // One event of the relay walk: the call that it names is made on a table of requests in flight, and the lines that
-// tell the answer are written. It never reads or writes a file: the caller lends the table, as the five arrays of
-// crate `inflight`, and the room for the lines. `turn` is the one call. `Event` is an event that was read; crate
-// `walk_events` reads events from bytes, crate `walk` turns them one by one. It is total: any contents of the table,
+// tell the answer are written. It never reads or writes a file: the caller lends the table of crate `inflight`
+// and the room for the lines. `turn` is the one call. `Event` is an event that was read,
+// `NoEvent` says why none was; crate `walk_events` reads them from bytes, crate `walk` turns them one by one. It is total: any contents of the table,
 // every event and any room have the answer that specs/Turn.antt gives. specs/Lines.antt has the lines.
 #![tactic(auto)]
 
@@ -11,7 +11,7 @@ mod turns;
 use inflight::{FrontNumber, Peer, PublisherNumber};
 pub use turns::turn;
 
-// What stands at the front of some event bytes.
+// An event that was read.
 #[derive(Clone, Copy)]
 pub enum Event {
     // Kind 1: an ask with time 0 and timeout 0.
@@ -24,6 +24,11 @@ pub enum Event {
     AskBy(u8, FrontNumber, u8, u64, u32),
     // Kind 7, with its time.
     RunOut(u64),
+}
+
+// Why no event stands at the front of some bytes.
+#[derive(Clone, Copy)]
+pub enum NoEvent {
     // No byte.
     End,
     // A record whose last byte is not there.

@@ -1,5 +1,5 @@
 -- Laws of little-endian numbers, over the width. Assumes nothing.
-use mathlib.Core.Path.{◌≡◌, refl, sym, ap, ◌∙◌}
+use mathlib.Core.Path.{◌≡◌, refl, sym, ap, ap₂, ◌∙◌}
 use Prim.Native.Nat.{ℕ, zero, suc, ◌+◌, ◌-◌, ◌*◌, ◌/◌, ◌%◌, ◌^◌, ◌≤◌, ◌<◌, min}
 use native.Mathlib.Nat.{add-suc, add-zero, zero-add, suc-add, one-mul, pow-suc, mul_comm, mul_assoc, div-div-eq-div-mul, mod-add-div}
 use native.Mathlib.Omega.{arith}
@@ -9,6 +9,7 @@ use lib.Dec.{leb}
 use borrow.Author.Tests.{leb-true, leb-false}
 use lib.ListN.{length, take, drop, get_or, replicate, length-drop, drop_of_length-le}
 use lib.Seq.{get_or-drop, drop-cons, drop-drop, drop_at, take_at, take-add, take_all, take-nil, take-take, length-take-le, sets, sets-eq}
+use Rattle.std.specs.Int.{byte_at, byte_worth, bytes_low_first, sum_through}
 use Rattle.wire.specs.Bytes.{le, part, bytes}
 
 -- one byte further up
@@ -22,6 +23,14 @@ unfolding le
 le-append [] b = sym (zero-add (1 * le b) ∙ one-mul (le b))
 le-append (x ∷ a) b =
     omega (arith, le-append a b, shift (length a) (le b))
+
+-- one byte, or 0 past the end
+pub le_byte : (s : List ℕ) (at : ℕ) → get_or s at 0 ≡ le (part s at 1)
+unfolding le
+le_byte [] zero = refl
+le_byte [] (suc at) = refl
+le_byte (b ∷ s) zero = omega arith
+le_byte (b ∷ s) (suc at) = le_byte s at
 
 module _ (s : List ℕ) (at : ℕ) where
   -- bytes past the end count as 0
@@ -178,6 +187,59 @@ pub bytes-zero : (k : ℕ) → bytes k 0 ≡ replicate k 0
 unfolding bytes
 bytes-zero zero = refl
 bytes-zero (suc k) = ap (λ (t : List ℕ). 0 ∷ t) (bytes-zero k)
+
+-- byte i, as the library has it
+byte-at : (i n : ℕ) → byte_at i n ≡ n / 256 ^ i % 256
+byte-at zero n = omega arith
+byte-at (suc i) n = refl
+
+low_first : (k i n : ℕ) → bytes_low_first i k n ≡ bytes k (n / 256 ^ i)
+unfolding bytes
+low_first zero i n = refl
+low_first (suc k) i n =
+    ap₂ (λ (b : ℕ) (t : List ℕ). b ∷ t) (byte-at i n)
+    (low_first k (suc i) n ∙ ap (bytes k) (sym (div-div-eq-div-mul n (256 ^ i) 256 ∙ ap (λ (m : ℕ). n / m) (sym (pow-suc 256 i)))))
+
+-- the library's bytes of a number are these
+pub library_bytes : (k n : ℕ) → bytes_low_first 0 k n ≡ bytes k n
+library_bytes k n = let e : n / 256 ^ 0 ≡ n = omega arith in low_first k 0 n ∙ ap (bytes k) e
+
+from_le : (b : List ℕ) (k : ℕ) → suc k ≤ length b → sum_through (λ (i : ℕ). byte_worth i (get_or b i 0)) k ≡ le (part b 0 (suc k))
+from_le b zero h = le_byte b 0
+from_le b (suc k) h =
+    let j : suc k + 1 ≡ suc (suc k) = omega arith in
+    let z : 0 + suc k ≡ suc k = omega arith in
+    let e : le (part b (0 + suc k) 1) ≡ get_or b (suc k) 0 = ap (λ (i : ℕ). le (part b i 1)) z ∙ sym (le_byte b (suc k)) in
+    ap₂ (λ (x y : ℕ). x + y) (from_le b k (omega arith)) (mul_comm (get_or b (suc k) 0) (256 ^ suc k) ∙ ap (λ (x : ℕ). 256 ^ suc k * x) (sym e))
+    ∙ sym (le_join b 0 (suc k) 1 (omega arith)) ∙ ap (λ (n : ℕ). le (part b 0 n)) j
+
+-- and so is the number that bytes spell
+pub library_le : (b : List ℕ) (k : ℕ) → length b ≡ suc k → sum_through (λ (i : ℕ). byte_worth i (get_or b i 0)) k ≡ le b
+library_le b k h = from_le b k (omega arith) ∙ ap le (take_all (suc k) b (omega arith))
+
+-- ---- a number that is cut off
+
+le-drop-zeros : (k n : ℕ) → le (drop k (replicate n 0)) ≡ 0
+unfolding le
+le-drop-zeros zero n = le-zeros n
+le-drop-zeros (suc k) zero = refl
+le-drop-zeros (suc k) (suc n) = le-drop-zeros k n
+
+-- zeros behind a list add nothing
+pub le-padded : (r : List ℕ) (n : ℕ) → length r ≤ n → le (r ++ drop (length r) (replicate n 0)) ≡ le (take n r)
+le-padded r n h =
+    le-append r (drop (length r) (replicate n 0)) ∙ ap (λ (x : ℕ). le r + 256 ^ length r * x) (le-drop-zeros (length r) n)
+    ∙ omega arith ∙ ap le (sym (take_all n r h))
+
+-- the rest of a list from a place on that was kept within its end
+pub cut-rest : (s : List ℕ) (at : ℕ) {m : ℕ} → m ≡ min at (length s) → take (length s - m) (drop m s) ≡ drop at s
+cut-rest s at {m} e = take_all (length s - m) (drop m s) (rw length-drop (omega arith)) ∙ go (leb (length s) at) refl
+  where
+    go : (b : Bool) → leb (length s) at ≡ b → drop m s ≡ drop at s
+    go true f =
+        let h = leb-true (length s) at f in
+        drop_of_length-le s {i = m} (omega arith) ∙ sym (drop_of_length-le s {i = at} h)
+    go false f = let h = leb-false (length s) at f in ap (λ (k : ℕ). drop k s) (omega arith)
 
 -- ---- reading what was stored
 

@@ -45,68 +45,33 @@ extern "C" {
     pub fn relay_encipher(buf: *mut u8, n: usize, keys: RoundKeys, vector: Vector) -> Chained;
     pub fn relay_decipher(buf: *mut u8, n: usize, keys: RoundKeys, vector: Vector) -> Chained;
 
-    pub fn relay_fresh_lent(
-        masks: *mut [u64; 9],
-        numbers: *mut [i64; 136],
-        times: *mut [u64; 65],
-        first: PublisherNumber,
-    ) -> u8;
+    pub fn relay_fresh_lent(table: *mut Table, first: PublisherNumber) -> u8;
     pub fn relay_ask_lent(
-        masks: *mut [u64; 9],
-        numbers: *mut [i64; 136],
-        places: *mut [u8; 128],
-        order: *mut [u8; 64],
-        times: *mut [u64; 65],
+        table: *mut Table,
         link: u8,
         number: FrontNumber,
         publisher: u8,
         time: u64,
         timeout: u32,
     ) -> Asked;
-    pub fn relay_reply_lent(
-        masks: *mut [u64; 9],
-        numbers: *const [i64; 136],
-        places: *const [u8; 128],
-        order: *mut [u8; 64],
-        publisher: u8,
-        number: PublisherNumber,
-    ) -> Replied;
-    pub fn relay_cancel_lent(
-        masks: *mut [u64; 9],
-        numbers: *const [i64; 136],
-        places: *const [u8; 128],
-        order: *mut [u8; 64],
-        link: u8,
-        number: FrontNumber,
-    ) -> Cancelled;
+    pub fn relay_reply_lent(table: *mut Table, publisher: u8, number: PublisherNumber) -> Replied;
+    pub fn relay_cancel_lent(table: *mut Table, link: u8, number: FrontNumber) -> Cancelled;
     pub fn relay_gone_lent(
-        masks: *mut [u64; 9],
-        numbers: *const [i64; 136],
-        places: *const [u8; 128],
-        order: *mut [u8; 64],
+        table: *mut Table,
         publisher: bool,
         number: u8,
         out: *mut i64,
         n: usize,
     ) -> Dropped;
-    pub fn relay_run_out_lent(
-        masks: *mut [u64; 9],
-        numbers: *const [i64; 136],
-        places: *const [u8; 128],
-        order: *mut [u8; 64],
-        times: *mut [u64; 65],
-        time: u64,
-        out: *mut i64,
-        n: usize,
-    ) -> Dropped;
+    pub fn relay_run_out_lent(table: *mut Table, time: u64, out: *mut i64, n: usize) -> Dropped;
 }
 
-// A table's calls: they lend its arrays where they stand and copy none, as the
+// A table's calls: they lend it where it stands and copy none of it, as the
 // inline functions of include/relay.h do.
 
 pub fn relay_fresh(t: &mut Table, first: PublisherNumber) -> u8 {
-    // SAFETY: the arrays are borrowed.
-    unsafe { relay_fresh_lent(&mut t.masks, &mut t.numbers, &mut t.times, first) }
+    // SAFETY: the table is borrowed.
+    unsafe { relay_fresh_lent(t, first) }
 }
 
 pub fn relay_ask(t: &mut Table, link: u8, number: FrontNumber, publisher: u8) -> Asked {
@@ -121,79 +86,26 @@ pub fn relay_ask_by(
     time: u64,
     timeout: u32,
 ) -> Asked {
-    // SAFETY: the arrays are borrowed, each once.
-    unsafe {
-        relay_ask_lent(
-            &mut t.masks,
-            &mut t.numbers,
-            &mut t.places,
-            &mut t.order,
-            &mut t.times,
-            link,
-            number,
-            publisher,
-            time,
-            timeout,
-        )
-    }
+    // SAFETY: the table is borrowed.
+    unsafe { relay_ask_lent(t, link, number, publisher, time, timeout) }
 }
 
 pub fn relay_reply(t: &mut Table, publisher: u8, number: PublisherNumber) -> Replied {
-    // SAFETY: the arrays are borrowed, each once.
-    unsafe {
-        relay_reply_lent(
-            &mut t.masks,
-            &t.numbers,
-            &t.places,
-            &mut t.order,
-            publisher,
-            number,
-        )
-    }
+    // SAFETY: the table is borrowed.
+    unsafe { relay_reply_lent(t, publisher, number) }
 }
 
 pub fn relay_cancel(t: &mut Table, link: u8, number: FrontNumber) -> Cancelled {
-    // SAFETY: the arrays are borrowed, each once.
-    unsafe {
-        relay_cancel_lent(
-            &mut t.masks,
-            &t.numbers,
-            &t.places,
-            &mut t.order,
-            link,
-            number,
-        )
-    }
+    // SAFETY: the table is borrowed.
+    unsafe { relay_cancel_lent(t, link, number) }
 }
 
 pub fn relay_gone(t: &mut Table, publisher: bool, number: u8, out: &mut [i64]) -> Dropped {
-    // SAFETY: the arrays are borrowed, each once; the pointer and length are a slice's.
-    unsafe {
-        relay_gone_lent(
-            &mut t.masks,
-            &t.numbers,
-            &t.places,
-            &mut t.order,
-            publisher,
-            number,
-            out.as_mut_ptr(),
-            out.len(),
-        )
-    }
+    // SAFETY: the table is borrowed; the pointer and length are a slice's.
+    unsafe { relay_gone_lent(t, publisher, number, out.as_mut_ptr(), out.len()) }
 }
 
 pub fn relay_run_out(t: &mut Table, time: u64, out: &mut [i64]) -> Dropped {
-    // SAFETY: the arrays are borrowed, each once; the pointer and length are a slice's.
-    unsafe {
-        relay_run_out_lent(
-            &mut t.masks,
-            &t.numbers,
-            &t.places,
-            &mut t.order,
-            &mut t.times,
-            time,
-            out.as_mut_ptr(),
-            out.len(),
-        )
-    }
+    // SAFETY: the table is borrowed; the pointer and length are a slice's.
+    unsafe { relay_run_out_lent(t, time, out.as_mut_ptr(), out.len()) }
 }

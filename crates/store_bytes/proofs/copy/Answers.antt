@@ -1,49 +1,49 @@
 -- `store_bytes::copy` meets its contract: what it leaves out is past the end. Assumes nothing.
-use mathlib.Core.Path.{refl, ap, ◌∙◌}
+use mathlib.Core.Path.{◌≡◌, refl, sym, ap, ◌∙◌}
+use mathlib.Core.Bool.{Bool, true, false}
+use mathlib.Core.List.{List, ◌++◌, append_assoc}
+use Prim.Native.Nat.{ℕ, ◌+◌, ◌-◌, ◌≤◌, min}
 use native.Mathlib.Omega.{arith}
-use lib.ListN.{length-set}
-use lib.Seq.{sets, take_all}
-use Rattle.wire.proofs.StoreLaws.{sets-one-more, sets-cut}
+use lib.Dec.{leb}
+use borrow.Author.Tests.{leb-true, leb-false}
+use borrow.Rule.Slice.PartMut.{put_mid}
+use lib.ListN.{length, take, drop}
+use lib.Seq.{sets, sets-eq, take_all, drop-drop, length-take-le}
+use Rattle.wire.proofs.StoreLaws.{sets-cut}
 use Rattle.store_bytes.proofs.copy.Goals as goal
 
-pub loop-i-init : goal.loop-i-init
-loop-i-init c = (omega arith, omega arith, refl, refl)
+-- a part that is written is a run of stores
+part_stored : (d b : List ℕ) (at n : ℕ) → length b ≡ n → at + n ≤ length d → put_mid at (at + n - at) d b ≡ sets d at b
+part_stored d b at n l g =
+    let e : at + n - at ≡ n = omega arith in
+    rw e (ap (λ (k : List ℕ). take at d ++ (b ++ k)) (drop-drop n at d)
+    ∙ sym (rw l at (sets-eq b d at (rw l g)) ∙ append_assoc (take at d) b (drop (at + n) d)))
 
-pub shape_of-d-then-room-i : goal.shape_of-d-then-room-i
-shape_of-d-then-room-i c = c.loop-i.invariant.2
+-- what there is no room for is past the end
+all_stored : (d t : List ℕ) (at n : ℕ) → n ≡ min (length t) (length d - at) → sets d at (take n t) ≡ sets d at t
+all_stored d t at n e = go (leb (length t) n) refl
+  where
+    go : (b : Bool) → leb (length t) n ≡ b → sets d at (take n t) ≡ sets d at t
+    go true f = ap (sets d at) (take_all n t (leb-true (length t) n f))
+    go false f = let h = leb-false (length t) n f in sets-cut d at t n (omega arith) (omega arith)
 
-pub returns-then-room-i : goal.returns-then-room-i
-returns-then-room-i c =
+pub returns-then-n-t : goal.returns-then-n-t
+returns-then-n-t c =
     let a = c.args in
-    let l = c.loop-i in
-    l.invariant.3 ∙ sets-cut a.d.now a.at a.t.now l.i l.invariant.0 (omega arith)
+    let m = length a.t.now in
+    ap (put_mid a.at (a.at + m - a.at) a.d.now) c.copy_from_slice.ensures.after
+    ∙ part_stored a.d.now a.t.now a.at m refl (omega (arith, c.min-n.ensures, c.left.ensures, c.if-n-gt0.true, c.if-n-t.true))
 
-pub bounds-t-i : goal.bounds-t-i
-bounds-t-i c = omega arith
-
-pub overflow_add-d : goal.overflow_add-d
-overflow_add-d c = omega arith
-
-pub bounds-d-at : goal.bounds-d-at
-bounds-d-at c = omega arith
-
-pub overflow_add-i : goal.overflow_add-i
-overflow_add-i c = omega arith
-
-pub loop-i-smaller : goal.loop-i-smaller
-loop-i-smaller c = omega arith
-
-pub loop-i-preserved : goal.loop-i-preserved
-loop-i-preserved c =
-    let l = c.loop-i in
+pub returns-else-n-t : goal.returns-else-n-t
+returns-else-n-t c =
     let a = c.args in
-    (omega arith, omega arith, simp length-set l.invariant.2, rw l.invariant.3 (sets-one-more a.d.now a.at a.t.now l.i (omega arith)))
+    let n = c.min-n.result in
+    let e : n ≡ min (length a.t.now) (length a.d.now - a.at) = c.min-n.ensures ∙ ap (min (length a.t.now)) c.left.ensures in
+    ap (put_mid a.at (a.at + n - a.at) a.d.now) c.copy_from_slice-else-n-t.ensures.after
+    ∙ part_stored a.d.now (take n a.t.now) a.at n (length-take-le n a.t.now (omega arith)) (omega (arith, c.if-n-gt0.true))
+    ∙ all_stored a.d.now a.t.now a.at n e
 
-pub shape_of-d : goal.shape_of-d
-shape_of-d c = c.loop-i.invariant.2
-
-pub returns : goal.returns
-returns c =
+pub returns-else-n-gt0 : goal.returns-else-n-gt0
+returns-else-n-gt0 c =
     let a = c.args in
-    let l = c.loop-i in
-    l.invariant.3 ∙ ap (sets a.d.now a.at) (take_all l.i a.t.now c.loop-i-test.false)
+    all_stored a.d.now a.t.now a.at 0 (omega (arith, c.min-n.ensures, c.left.ensures, c.if-n-gt0.false))

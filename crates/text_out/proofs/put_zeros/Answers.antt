@@ -1,29 +1,24 @@
--- `text::put_zeros` meets its contract: zeros are the bytes of 0. Assumes nothing.
-use mathlib.Core.Path.{◌≡◌, refl, sym, ap, ◌∙◌}
-use Prim.Native.Nat.{ℕ, ◌+◌}
+-- `text_out::put_zeros` meets its contract: a part that is filled is a run of stores. Assumes nothing.
+use mathlib.Core.Path.{◌≡◌, sym, ap, ◌∙◌}
+use mathlib.Core.List.{List, ◌++◌, append_assoc}
+use Prim.Native.Nat.{ℕ, ◌+◌, ◌-◌, ◌≤◌}
 use native.Mathlib.Omega.{arith}
-use lib.ListN.{replicate}
-use lib.Seq.{sets}
-use Rattle.wire.specs.Bytes.{bytes}
-use Rattle.wire.proofs.ByteLaws.{bytes-zero}
-use Rattle.wire.proofs.StoreLaws.{runs-2}
+use borrow.Rule.Slice.PartMut.{put_mid}
+use lib.ListN.{length, take, drop, replicate, length-replicate, length-drop}
+use lib.Seq.{sets, sets-eq, drop-drop, length-take-le}
 use Rattle.text_out.proofs.put_zeros.Goals as goal
 
-pub returns-then-n-eq1 : goal.returns-then-n-eq1
-returns-then-n-eq1 c =
-    let a = c.args in
-    c.put_u8.ensures ∙ ap (sets a.d.now a.at) (bytes-zero 1 ∙ ap (λ (k : ℕ). replicate k 0) (sym c.if-n-eq1.true))
+part_stored : (d b : List ℕ) (at n : ℕ) → length b ≡ n → at + n ≤ length d → put_mid at n d b ≡ sets d at b
+part_stored d b at n l g =
+    ap (λ (k : List ℕ). take at d ++ (b ++ k)) (drop-drop n at d)
+    ∙ sym (rw l at (sets-eq b d at (rw l g)) ∙ append_assoc (take at d) b (drop (at + n) d))
 
-pub returns-then-n-eq3 : goal.returns-then-n-eq3
-unfolding bytes
-returns-then-n-eq3 c =
+pub returns : goal.returns
+returns c =
     let a = c.args in
-    runs-2 a.d.now a.at (a.at + 2) (bytes 2 0) (bytes 1 0) c.put_u16.ensures c.put_u8-then-n-eq3.ensures refl
-    ∙ ap (λ (k : ℕ). sets a.d.now a.at (replicate k 0)) (sym c.if-n-eq3.true)
-
-pub returns-else-n-eq3 : goal.returns-else-n-eq3
-unfolding bytes
-returns-else-n-eq3 c =
-    let a = c.args in
-    let e : 2 ≡ a.n = omega arith in
-    c.put_u16.ensures ∙ ap (λ (k : ℕ). sets a.d.now a.at (replicate k 0)) e
+    let d = a.d.now in
+    let e : a.at + a.n - a.at ≡ a.n = omega arith in
+    let l : length (take (a.at + a.n - a.at) (drop a.at d)) ≡ a.n =
+    rw e (length-take-le a.n (drop a.at d) (omega (arith, length-drop a.at d, c.requires))) in
+    let f : c.fill.new.self ≡ replicate a.n 0 = c.fill.ensures.after (λ y e. e) ∙ ap (λ (k : ℕ). replicate k 0) l in
+    rw (f, e) (part_stored d (replicate a.n 0) a.at a.n (length-replicate a.n 0) c.requires)

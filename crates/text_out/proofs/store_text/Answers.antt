@@ -11,7 +11,7 @@ use Rattle.text_out.proofs.store_text.Goals as goal
 pub put_zeros-requires : goal.put_zeros-requires
 put_zeros-requires c =
     let p = rw (← c.head_size-head.ensures.0) at c.requires.0 in
-    (omega arith, omega (arith, c.copy.auto.d, c.put_head.auto.d))
+    omega (arith, c.copy.auto.d, c.put_head.auto.d)
 
 pub returns : goal.returns
 unfolding text_bytes

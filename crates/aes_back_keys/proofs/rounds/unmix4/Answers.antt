@@ -13,8 +13,8 @@ returns c =
     let x = c.args.x in
     column0 (x % 256) (x / 256 % 256) (x / 65536 % 256) (x / 16777216 % 256) _ _ _ _
     c.look.ensures
-    (c.turn8.ensures
+    (c.rotated.ensures
     ∙ ap turn_list c.look-2.ensures)
-    (c.turn16.ensures
+    (c.rotated-2.ensures
     ∙ ap (λ (l : List ℕ). turn_list (turn_list l)) c.look-3.ensures)
-    (c.turn24.ensures ∙ ap (λ (l : List ℕ). turn_list (turn_list (turn_list l))) c.look-4.ensures)
+    (c.rotated-3.ensures ∙ ap (λ (l : List ℕ). turn_list (turn_list (turn_list l))) c.look-4.ensures)

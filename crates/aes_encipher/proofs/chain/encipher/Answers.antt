@@ -1,15 +1,15 @@
 -- `aes_encipher::chain::encipher` meets its contract. Assumes nothing.
-use native.Mathlib.Omega.{arith}
-use Rattle.aes_encipher.proofs.Buffer.{refused-call, done-call}
+use Rattle.aes_encipher.proofs.Buffer.{refused-answer, refused-buffer, done-answer, done-buffer}
 use Rattle.aes_encipher.proofs.chain.encipher.Goals as goal
 
-pub returns-then-buf-ne0 : goal.returns-then-buf-ne0
-returns-then-buf-ne0 c = refused-call _ _ _ c.if-buf-ne0.true
+pub returns-then-buf-ne0-clause-answer : goal.returns-then-buf-ne0-clause-answer
+returns-then-buf-ne0-clause-answer c = refused-answer c.args.w c.args.v c.args.buf.now c.if-buf-ne0.true
 
-pub chain-q-requires : goal.chain-q-requires
-chain-q-requires c = omega (arith, c.well_formed.0)
+pub returns-then-buf-ne0-clause-buffer : goal.returns-then-buf-ne0-clause-buffer
+returns-then-buf-ne0-clause-buffer c = refused-buffer c.args.w c.args.v c.args.buf.now c.if-buf-ne0.true
 
-pub returns : goal.returns
-returns c = done-call _ _ _ c.if-buf-ne0.false
-    c.quad.ensures c.chain-q.ensures.result_value
-    c.array-n.ensures c.chain-q.ensures.buf_after
+pub returns-clause-answer : goal.returns-clause-answer
+returns-clause-answer c = done-answer c.args.w c.args.v c.args.buf.now c.if-buf-ne0.false c.chained.ensures.vector
+
+pub returns-clause-buffer : goal.returns-clause-buffer
+returns-clause-buffer c = done-buffer c.args.w c.args.v c.args.buf.now c.if-buf-ne0.false c.chained.ensures.buffer

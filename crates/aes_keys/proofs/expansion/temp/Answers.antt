@@ -8,7 +8,7 @@ use borrow.Author.Tests.{eq-eqb, ne_eqb}
 use Rattle.aes.specs.Aes.{add, sub_bytes, temp}
 use Rattle.aes.specs.Words.{bytes4}
 use Rattle.aes.proofs.Words.{list4}
-use Rattle.aes_loops.proofs.Turns.{turns}
+use Rattle.aes_loops.specs.Rows.{turns}
 use Rattle.aes_keys.proofs.expansion.temp.Goals as goal
 
 opened : (p : ℕ) → turns 3 (bytes4 p) ≡ drop 1 (bytes4 p) ++ take 1 (bytes4 p)

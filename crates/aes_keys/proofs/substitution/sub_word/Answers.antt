@@ -1,67 +1,7 @@
 -- `aes_keys::substitution::sub_word` meets its contract. Assumes nothing.
-use mathlib.Core.Path.{◌≡◌, refl, sym, ap, ap₂, ◌∙◌}
-use mathlib.Core.List.{[], ◌∷◌}
-use Prim.Native.Nat.{ℕ}
-use native.Mathlib.Numerals.{add-one}
-use native.Mathlib.Omega.{arith}
-use Rattle.aes.specs.declared.Quad.{Quad}
-use Rattle.aes.specs.Field.{sbox}
-use Rattle.aes.specs.Aes.{add}
 use Rattle.aes.specs.Words.{bytes4}
-use Rattle.aes.proofs.Words.{bytes4-xor}
-use Rattle.aes.proofs.Quads.{slant}
-use Rattle.aes_loops.proofs.Turns.{turns, sums, ahead-all, ahead-next, unmixed-sums}
-use Rattle.aes_keys.proofs.substitution.sub_word.Invariants.{f}
 use Rattle.aes_keys.proofs.substitution.sub_word.Goals as goal
-
-pub loop-r-init : goal.loop-r-init
-loop-r-init c = (
-  omega arith,
-  (
-    ahead-all (record { a = c.args.p; b = c.args.p; c = c.args.p; d = c.args.p }),
-    refl,
-  ),
-)
-
-pub placed-y-requires : goal.placed-y-requires
-placed-y-requires c = omega arith
-
-pub overflow_add-r : goal.overflow_add-r
-overflow_add-r c = omega arith
-
-pub loop-r-smaller : goal.loop-r-smaller
-loop-r-smaller c = omega arith
-
-pub loop-r-preserved : goal.loop-r-preserved
-loop-r-preserved c =
-    let q₀ : Quad = record {
-      a = c.args.p;
-      b = c.args.p;
-      c = c.args.p;
-      d = c.args.p;
-    } in
-    let row = slant q₀.a q₀.b q₀.c q₀.d in
-    let r = c.loop-r.r in
-    let i = c.loop-r.invariant in (
-      omega arith,
-      (
-        ahead-next row r c.loop-r.q refl i.1.0,
-        bytes4-xor c.loop-r.x c.placed-y.result
-            ∙ ap₂ add i.1.1 (c.placed-y.ensures
-            ∙ ap (turns r) (ap (λ (v : ℕ). v ∷ 0 ∷ 0 ∷ 0 ∷ []) (c.key_sub-b.ensures ∙ ap sbox i.1.0.0)))
-            ∙ ap (sums f row (bytes4 c.args.k)) (sym (add-one r)),
-      ),
-    )
 
 pub returns : goal.returns
 unfolding bytes4
-returns c =
-    let q₀ : Quad = record {
-      a = c.args.p;
-      b = c.args.p;
-      c = c.args.p;
-      d = c.args.p;
-    } in
-    let k = c.args.k in
-    let e : c.loop-r.r ≡ 4 = omega (arith, c.loop-r-test.false) in
-    c.loop-r.invariant.1.1 ∙ ap (sums f (slant q₀.a q₀.b q₀.c q₀.d) (bytes4 k)) e ∙ unmixed-sums _ _ _ _ k
+returns c = c.gathered.ensures

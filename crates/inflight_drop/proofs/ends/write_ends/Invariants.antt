@@ -1,16 +1,16 @@
 use mathlib.Core.Path.{◌≡◌}
-use Prim.Native.Nat.{◌-◌, ◌*◌, ◌≤◌}
+use Prim.Native.Nat.{◌*◌}
 use lib.ListN.{length, take}
 use Rattle.inflight.specs.Masks.{within}
 use Rattle.inflight.specs.Matching.{over_front}
 use Rattle.inflight.specs.Tables.{ends_of}
 use Rattle.inflight_drop.proofs.ends.write_ends.Given as goal
 
--- The other ends, two numbers a request: after i bytes of the line the slice holds those of the leaving ones among them.
--- Assumes nothing.
+-- The other ends, two numbers a request: after some bytes of the line the slice holds those of the leaving ones among
+-- them. Assumes nothing.
 
-abbrev pub invariant-loop-i : goal.invariant-loop-i
-invariant-loop-i l = (l.i ≤ l.n) × (l.at ≡ 2 * length (within l.mask (take l.i l.line))) × (length l.out ≡ length l.initial.out) × (l.out ≡ over_front (ends_of l.numbers l.places l.base (within l.mask (take l.i l.line))) l.initial.out)
-
-abbrev pub decreases-loop-i : goal.decreases-loop-i
-decreases-loop-i l = l.n - l.i
+abbrev pub invariant-loop-x : goal.invariant-loop-x
+invariant-loop-x l = record {
+  at : l.at ≡ 2 * length (within l.mask (take l.x-index l.line));
+  out : l.out ≡ over_front (ends_of l.numbers l.places l.base (within l.mask (take l.x-index l.line))) l.initial.out;
+}

@@ -2,36 +2,30 @@
 -- Assumes nothing.
 use Rattle.inflight.specs.Matching.{sum_below}
 use Rattle.inflight_rules.proofs.SumLaws.{sum_more}
-use Prim.Native.Nat.{max}
 use borrow.Author.Rules.{rules}
+use borrow.Rule.Slice.PartMut.{mid_of}
 use mathlib.Core.Path.{◌≡◌, sym, ap, ◌∙◌}
-use Prim.Native.Nat.{ℕ, ◌+◌}
+use Prim.Native.Nat.{ℕ, ◌+◌, max}
 use native.Mathlib.Omega.{arith}
-use lib.ListN.{get_or}
+use lib.ListN.{get_or, length, drop, length-drop}
+use lib.Seq.{get_or-drop, length-take-le}
 use lib.Count.{ones}
+use Rattle.std.proofs.lemmas.List.{get_or-take}
 use Rattle.inflight_rules.proofs.capacity.capacity_taken.Goals as goal
 
-pub loop-p-init : goal.loop-p-init
+pub loop-m-init : goal.loop-m-init
 unfolding sum_below
-loop-p-init c = search rules
+loop-m-init c = search rules
 
-pub loop-p-preserved-then-load-lt4 : goal.loop-p-preserved-then-load-lt4
-loop-p-preserved-then-load-lt4 c =
+pub loop-m-preserved : goal.loop-m-preserved
+loop-m-preserved c =
     let ms = c.args.masks.now in
-    let p : ℕ = c.loop-p.p in
-    let n = c.count-load.ensures in
+    let p : ℕ = c.loop-m.m-index in
+    let l : length ms ≡ 9 = search rules in
+    let k : length (mid_of 1 8 ms) ≡ 8 = length-take-le 8 (drop 1 ms) (let d = length-drop 1 ms in omega arith) in
+    let e : get_or (mid_of 1 8 ms) p 0 ≡ get_or ms (1 + p) 0 = get_or-take 8 (drop 1 ms) p 0 (omega arith) ∙ get_or-drop 1 ms p 0 in
+    let n = c.count.ensures.0 ∙ ap ones e in
+    let m = c.max-sum.ensures in
     let t = sum_more p (λ q. max 4 (ones (get_or ms (1 + q) 0))) in
-    let inv = c.loop-p.invariant in
-    (omega arith, omega arith, ap (λ (x : ℕ). x + 4) inv.2 ∙ sym (t ∙ omega arith))
-
-pub loop-p-preserved : goal.loop-p-preserved
-loop-p-preserved c =
-    let ms = c.args.masks.now in
-    let p : ℕ = c.loop-p.p in
-    let n = c.count-load.ensures in
-    let t = sum_more p (λ q. max 4 (ones (get_or ms (1 + q) 0))) in
-    let inv = c.loop-p.invariant in
-    (omega arith, omega arith, ap (λ (x : ℕ). x + c.count-load.result) inv.2 ∙ sym (t ∙ omega arith))
-
-pub returns : goal.returns
-returns c = let p : c.loop-p.p ≡ 8 = omega arith in c.loop-p.invariant.2 ∙ ap (λ (k : ℕ). sum_below k (λ q. max 4 (ones (get_or c.args.masks.now (1 + q) 0)))) p
+    let inv = c.loop-m.invariant in
+    (omega arith, ap (λ (x : ℕ). x + c.max-sum.result) inv.1 ∙ sym (t ∙ omega arith))

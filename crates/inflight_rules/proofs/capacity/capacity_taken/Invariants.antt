@@ -1,7 +1,7 @@
 use Rattle.inflight.specs.Matching.{sum_below}
 use Prim.Native.Nat.{max}
 use mathlib.Core.Path.{◌≡◌}
-use Prim.Native.Nat.{◌+◌, ◌-◌, ◌*◌, ◌≤◌}
+use Prim.Native.Nat.{◌+◌, ◌*◌, ◌≤◌}
 use lib.ListN.{get_or}
 use lib.Count.{ones}
 use Rattle.inflight_rules.proofs.capacity.capacity_taken.Given as goal
@@ -9,8 +9,5 @@ use Rattle.inflight_rules.proofs.capacity.capacity_taken.Given as goal
 -- Publisher by publisher: the sum of the loads so far, each at least 4.
 -- Assumes nothing.
 
-abbrev pub invariant-loop-p : goal.invariant-loop-p
-invariant-loop-p l = (l.p ≤ 8) × (l.sum ≤ 64 * l.p) × (l.sum ≡ sum_below l.p (λ q. max 4 (ones (get_or l.masks (1 + q) 0))))
-
-abbrev pub decreases-loop-p : goal.decreases-loop-p
-decreases-loop-p l = 8 - l.p
+abbrev pub invariant-loop-m : goal.invariant-loop-m
+invariant-loop-m l = (l.sum ≤ 64 * l.m-index) × (l.sum ≡ sum_below l.m-index (λ q. max 4 (ones (get_or l.masks (1 + q) 0))))

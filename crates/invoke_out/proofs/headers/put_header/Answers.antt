@@ -9,35 +9,34 @@ use Rattle.wire.proofs.StoreLaws.{runs-2, runs-3, runs-4}
 use Rattle.invoke_out.specs.WriteInvoke.{field_bytes, header_bytes}
 use Rattle.invoke_out.proofs.headers.put_header.Goals as goal
 
-pub returns-in-Absent-field : goal.returns-in-Absent-field
+pub returns-in-None-None : goal.returns-in-None-None
 unfolding field_bytes header_bytes
-returns-in-Absent-field c =
-    simp (← c.effective_timeout-field.ensures, c.in-Absent.is, c.in-Absent-field.is)
+returns-in-None-None c = simp (← c.effective_timeout.ensures, c.in-None-None.is-0, c.in-None-None.is-1)
 
-pub returns-in-Ms : goal.returns-in-Ms
+pub returns-in-None-Some : goal.returns-in-None-Some
 unfolding field_bytes header_bytes
-returns-in-Ms c =
-    simp (← c.effective_timeout-field.ensures, c.in-Absent.is, c.in-Ms.is)
-    (runs-3 c.args.d.now 8 12 16 (bytes 4 0xe352035e) (bytes 4 8388608) (bytes 4 c.in-Ms.ms)
-    c.put_u32.ensures c.put_u32-in-Ms.ensures c.put_u32-in-Ms-2.ensures
+returns-in-None-Some c =
+    simp (← c.effective_timeout.ensures, c.in-None-Some.is-0, c.in-None-Some.is-1)
+    (runs-3 c.args.d.now 8 12 16 (bytes 4 0xe352035e) (bytes 4 8388608) (bytes 4 c.in-None-Some.ms)
+    c.put_u32.ensures c.put_u32-in-None-Some.ensures c.put_u32-in-None-Some-2.ensures
     (rw length-bytes refl) (rw length-bytes refl))
 
-pub returns-in-Absent-field-2 : goal.returns-in-Absent-field-2
+pub returns-in-Some-None : goal.returns-in-Some-None
 unfolding field_bytes header_bytes
-returns-in-Absent-field-2 c =
-    let same : to_z w64 (of_z w64 c.in-Is.id) ≡ c.in-Is.id = search rules in
-    simp (← c.effective_timeout-field.ensures, c.in-Is.is, c.in-Absent-field-2.is)
-    (runs-2 c.args.d.now 8 12 (bytes 4 0x7568aabd) (bytes 8 (of_z w64 c.in-Is.id))
-    c.put_u32-in-Absent-field-2.ensures (rw same at c.put_i64.ensures)
+returns-in-Some-None c =
+    let same : to_z w64 (of_z w64 c.in-Some-None.id) ≡ c.in-Some-None.id = search rules in
+    simp (← c.effective_timeout.ensures, c.in-Some-None.is-0, c.in-Some-None.is-1)
+    (runs-2 c.args.d.now 8 12 (bytes 4 0x7568aabd) (bytes 8 (of_z w64 c.in-Some-None.id))
+    c.put_u32-in-Some-None.ensures (rw same at c.put_i64.ensures)
     (rw length-bytes refl))
 
-pub returns-in-Ms-field : goal.returns-in-Ms-field
+pub returns-in-Some-Some : goal.returns-in-Some-Some
 unfolding field_bytes header_bytes
-returns-in-Ms-field c =
-    let same : to_z w64 (of_z w64 c.in-Is.id) ≡ c.in-Is.id = search rules in
-    simp (← c.effective_timeout-field.ensures, c.in-Is.is, c.in-Ms-field.is)
+returns-in-Some-Some c =
+    let same : to_z w64 (of_z w64 c.in-Some-Some.id) ≡ c.in-Some-Some.id = search rules in
+    simp (← c.effective_timeout.ensures, c.in-Some-Some.is-0, c.in-Some-Some.is-1)
     (runs-4 c.args.d.now 8 12 20 24
-    (bytes 4 0xf0a5acf7) (bytes 8 (of_z w64 c.in-Is.id)) (bytes 4 8388608) (bytes 4 c.in-Ms-field.ms)
-    c.put_u32-in-Ms-field.ensures (rw same at c.put_i64-in-Ms-field.ensures)
-    c.put_u32-in-Ms-field-2.ensures c.put_u32-in-Ms-field-3.ensures
+    (bytes 4 0xf0a5acf7) (bytes 8 (of_z w64 c.in-Some-Some.id)) (bytes 4 8388608) (bytes 4 c.in-Some-Some.ms)
+    c.put_u32-in-Some-Some.ensures (rw same at c.put_i64-in-Some-Some.ensures)
+    c.put_u32-in-Some-Some-2.ensures c.put_u32-in-Some-Some-3.ensures
     (rw length-bytes refl) (rw length-bytes refl) (rw length-bytes refl))

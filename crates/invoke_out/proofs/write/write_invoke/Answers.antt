@@ -3,6 +3,7 @@ use mathlib.Core.Path.{refl, sym, ap, ◌∙◌}
 use Prim.Native.Nat.{ℕ, ◌+◌}
 use mir.Syntax.{w64}
 use mir.Val.{of_z}
+use Rattle.refusal.proofs.Passing.{passed}
 use Rattle.wire.specs.Bytes.{bytes}
 use Rattle.wire.proofs.ByteLaws.{length-bytes}
 use Rattle.wire.proofs.SignLaws.{back}
@@ -12,21 +13,22 @@ use Rattle.invoke_out.proofs.WriteLaws.{body-length}
 use Rattle.invoke_out.proofs.write.write_invoke.Goals as goal
 
 -- What was asked before the first store is the definition's answer.
-pub returns-in-Refused : goal.returns-in-Refused
+pub returns-in_err-size : goal.returns-in_err-size
 unfolding invoke_answer
-returns-in-Refused c =
+returns-in_err-size c =
     let a = c.args in
     let b = back w64 a.number c.ranges.number.sfits in
     let l = body-length a.number a.actor a.timeout a.tl2 a.payload.now in
-    (sym c.in-Refused.is ∙ rw (l, ← c.invoke_size-size.ensures, ← c.payload_refused-refused.ensures) (rw b at c.size_or_refusal.ensures), refl)
+    let p = passed c.from_residual.result _ c.from_residual.ensures.1 in
+    (p ∙ sym c.in_err-size.was ∙ rw (l, ← c.invoke_size-size.ensures, ← c.payload_refused-refused.ensures) (rw b at c.size_or_refusal.ensures), rw p refl)
 
-pub returns-in-Size : goal.returns-in-Size
+pub returns : goal.returns
 unfolding invoke_answer invoke_bytes
-returns-in-Size c =
+returns c =
     let a = c.args in
     let b = back w64 a.number c.ranges.number.sfits in
     let l = body-length a.number a.actor a.timeout a.tl2 a.payload.now in (
-      sym c.in-Size.is ∙ rw (l, ← c.invoke_size-size.ensures, ← c.payload_refused-refused.ensures) (rw b at c.size_or_refusal.ensures),
+      sym c.in_ok-size.was ∙ rw (l, ← c.invoke_size-size.ensures, ← c.payload_refused-refused.ensures) (rw b at c.size_or_refusal.ensures),
       runs-4 a.d.now 0 8 (8 + c.header_size-marker.result) (8 + c.header_size-marker.result + c.marker_size.result)
           (bytes 8 (of_z w64 a.number)) (header_bytes a.actor a.timeout) (marker_bytes a.tl2) a.payload.now
           (rw b at c.put_i64.ensures) c.put_header.ensures c.put_marker.ensures c.copy.ensures

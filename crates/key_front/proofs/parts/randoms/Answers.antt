@@ -1,13 +1,15 @@
 -- `key_front::parts::randoms` meets its contract. Assumes nothing.
-use mathlib.Core.Path.{◌≡◌, refl}
-use lib.ListN.{length, replicate}
-use Rattle.key_front.proofs.Laid.{randoms-stored}
+use Rattle.std.proofs.Common.{replicate, refl, ◌∙◌, ap₂, ◌++◌, List, ℕ, arith}
+use borrow.Rule.Slice.PartMut.{put_mid}
+use Rattle.key_front.specs.Front.{randoms_of}
+use Rattle.key_front.proofs.Laid.{halves-stored}
 use Rattle.key_front.proofs.parts.randoms.Goals as goal
 
 pub returns : goal.returns
+unfolding randoms_of
 returns c =
-    let s = c.args.s in
-    let g = c.well_formed.0.1.1 in
-    let p : length s.server.random ≡ 16 = g.1.0.1.1.0.1.0.1 in
-    let q : length s.client.random ≡ 16 = g.0.1.1.0.1.0.1 in
-    randoms-stored s p q (replicate 32 0) refl c.copy.ensures c.copy-2.ensures
+    let s = c.args.s.now in
+    let a = c.copy_from_slice.ensures.after in
+    let b = c.copy_from_slice-2.ensures.after in
+    ap₂ (λ (x y : List ℕ). put_mid 16 16 (x ++ replicate 16 0) y) a b
+    ∙ halves-stored 16 16 s.server.random s.client.random (replicate 16 0) (omega arith) (omega arith) refl

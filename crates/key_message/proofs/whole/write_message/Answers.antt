@@ -1,22 +1,23 @@
 -- `key_message::whole::write_message` meets its contract. Assumes nothing.
-use mathlib.Core.Path.{sym, ◌∙◌}
-use lib.ListN.{length}
-use Rattle.key_message.proofs.Laid.{key-short, buffer-kept, buffer-written}
+use Rattle.std.proofs.Common.{sym, ◌∙◌}
+use Rattle.refusal.proofs.Passing.{passed}
+use Rattle.key_message.proofs.Laid.{buffer-kept, buffer-written}
 use Rattle.key_message.proofs.whole.write_message.Goals as goal
 
-pub put_message-requires : goal.put_message-requires
-put_message-requires c =
-    let a = c.args in
-    key-short a.version (length a.key.now) (length a.buf.now) (sym
-    c.size_or_refusal-answer.ensures ∙ c.in-Size.is)
+pub returns-in_err-size : goal.returns-in_err-size
+returns-in_err-size c =
+    let p = passed c.from_residual.result _ c.from_residual.ensures.1 in
+    let e = sym c.size_or_refusal.ensures.answer ∙ c.in_err-size.was in record {
+      answer = p ∙ sym e;
+      buffer = buffer-kept _ _ _ _ _ _ e;
+      size = rw p tt;
+    }
 
-pub returns-in-Refused : goal.returns-in-Refused
-returns-in-Refused c =
-    let e = sym c.size_or_refusal-answer.ensures ∙ c.in-Refused.is in
-    (sym e, buffer-kept _ _ _ _ _ _ e)
-
-pub returns-in-Size : goal.returns-in-Size
-returns-in-Size c =
-    let e = sym c.size_or_refusal-answer.ensures
-    ∙ c.in-Size.is in
-    (sym e, buffer-written _ _ _ _ _ _ e c.put_message.ensures)
+pub returns : goal.returns
+returns c =
+    let e = sym c.size_or_refusal.ensures.answer ∙ c.in_ok-size.was in
+    let t = c.in_ok-size.ensures.told in record {
+      answer = sym e;
+      buffer = buffer-written _ _ _ _ _ _ e c.put_message.ensures.stored;
+      size = (t.1.0, c.put_message.ensures.size ∙ sym t.1.1);
+    }

@@ -1,25 +1,20 @@
 -- `link_keys::hashes::aes_key` meets its contract. Assumes nothing.
-use mathlib.Core.Path.{◌≡◌, refl, sym, ap, ◌∙◌}
-use native.Mathlib.Omega.{arith}
-use lib.ListN.{length, replicate}
-use lib.Seq.{length-take-le}
+use Rattle.std.proofs.Common.{◌≡◌, ℕ, ◌++◌, List, length, take, drop, replicate, refl, ap, ap₂, ◌∙◌, arith, rules, length-take-le}
+use borrow.Rule.Slice.PartMut.{put_mid}
 use Rattle.md5_hash.specs.Md5.{md5}
-use Rattle.link_keys.proofs.Laws.{length-md5, key-stored}
-use borrow.Author.Rules.{rules}
+use Rattle.link_keys.specs.Keys.{key_of}
+use Rattle.key_front.proofs.Laid.{halves-stored}
+use Rattle.link_keys.proofs.Laws.{length-md5}
 use Rattle.link_keys.proofs.hashes.aes_key.Goals as goal
 
-pub slice_bounds-copy-end-2 : goal.slice_bounds-copy-end-2
-slice_bounds-copy-end-2 c =
-    let r = c.md5-a in
-    let e : length r.result ≡ 16 = ap length r.ensures ∙ length-md5 _ in
-    sym (length-take-le 12 r.result (omega arith))
-
 pub returns : goal.returns
+unfolding key_of
 returns c =
-    let r = c.md5-a in
-    let l : length c.sha1-b.result
-    ≡ 20 = search rules in
-    key-stored (replicate 32 0) c.args.m.now refl (r.ensures ∙ ap md5
-    c.without.ensures)
-    c.sha1-b.ensures l
-    c.copy.ensures c.copy-2.ensures
+    let m = c.args.m.now in
+    let a = c.copy_from_slice.ensures.after ∙ ap (take 12) (c.md5.ensures ∙ ap md5 c.without.ensures) in
+    let b = c.copy_from_slice-2.ensures.after in
+    let k = length-take-le 12 (md5 (drop 1 m)) (omega (arith, length-md5 (drop 1 m))) in
+    let l : length c.sha1.result ≡ 20 = search rules in
+    ap₂ (λ (x y : List ℕ). put_mid 12 20 (x ++ replicate 20 0) y) a b
+    ∙ halves-stored 12 20 _ c.sha1.result (replicate 20 0) k l refl
+    ∙ ap (λ (x : List ℕ). take 12 (md5 (drop 1 m)) ++ x) c.sha1.ensures

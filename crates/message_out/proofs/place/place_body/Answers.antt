@@ -7,7 +7,7 @@ use Rattle.message_out.proofs.place.place_body.Goals as goal
 
 pub returns-then-n-lt16 : goal.returns-then-n-lt16
 returns-then-n-lt16 c =
-    (answer-without-room _ _ _ _ _ c.usable-n.ensures c.if-n-lt16.true c.write_body-r.ensures.0 c.without_room.ensures, nothing-back _ _ _ c.write_body-r.result c.without_room.result c.without_room.ensures c.write_body-r.ensures.1)
+    (answer-without-room _ _ _ _ _ c.usable-n.ensures c.if-n-lt16.true c.write_body-r.ensures.0 c.and.ensures, nothing-back _ _ _ c.write_body-r.result c.and.result c.and.ensures c.write_body-r.ensures.1)
 
 pub slice_bounds-write_body-end-2 : goal.slice_bounds-write_body-end-2
 slice_bounds-write_body-end-2 c = omega (arith, usable-bound _ _ c.usable-n.ensures)

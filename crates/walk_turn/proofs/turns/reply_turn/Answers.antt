@@ -1,14 +1,23 @@
--- A reply: its table, and its answer's line.
--- Assumes nothing.
-use Rattle.inflight.specs.Tables.{Replied}
-use Rattle.walk_turn.specs.Lines.{reply_line, call_lines}
-use Rattle.walk_turn.specs.Turn.{turn_of, lines_of, after_event}
-use Rattle.walk_turn.proofs.TurnLaws.{turn_is}
+-- A reply: its table, and its answer's line. Assumes nothing.
+use Rattle.std.proofs.Common.{ap, ◌∙◌, arith}
+use mir.Syntax.{w64}
+use Rattle.wire.proofs.SignLaws.{back}
+use Rattle.walk_turn.specs.Lines.{reply_word, reply_line, call_lines}
+use Rattle.walk_turn.specs.Turn.{lines_of, after_event}
+use Rattle.walk_turn.proofs.WroteLaws.{wrote_is, pair_is}
 use Rattle.walk_turn.proofs.turns.reply_turn.Goals as goal
 
-pub returns : goal.returns
-unfolding turn_of lines_of after_event call_lines
-returns c = λ ts.
-    turn_is (λ (r : Replied). r.table) (λ (r : Replied). reply_line r.answer)
-    c.args.text.now
-    (c.reply-answer.ensures ts) c.put_reply.ensures
+pub returns-in-Ok : goal.returns-in-Ok
+unfolding lines_of after_event call_lines reply_line
+returns-in-Ok c =
+    let end = c.in-Ok.end in
+    let place = back w64 c.from.result (omega (arith, c.from.ensures)) ∙ c.from.ensures in
+    let number = back w64 end.number.0 (omega arith) in
+    record {
+      table = c.reply.ensures.1;
+      lines = wrote_is (pair_is reply_word place number ∙ ap reply_line c.in-Ok.ensures.0) c.pair.ensures.wrote;
+    }
+
+pub returns-in-Err : goal.returns-in-Err
+unfolding lines_of after_event call_lines reply_line
+returns-in-Err c = record { table = c.reply.ensures.1; lines = wrote_is (ap reply_line c.in-Err.ensures.0) c.refused.ensures }

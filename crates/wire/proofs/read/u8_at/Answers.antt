@@ -1,11 +1,11 @@
--- `wire::u8_at` meets its contract. Assumes nothing.
-use mathlib.Core.Path.{sym}
+-- `wire::u8_at` meets its contract: the byte there, or 0. Assumes nothing.
+use mathlib.Core.Path.{ap, ◌∙◌}
 use native.Mathlib.Omega.{arith}
-use Rattle.wire.proofs.ByteLaws.{le-none, le-one}
+use Rattle.std.specs.Option.{unwrap_or}
+use Rattle.wire.proofs.ByteLaws.{le_byte}
 use Rattle.wire.proofs.read.u8_at.Goals as goal
 
-pub returns-then-s-at : goal.returns-then-s-at
-returns-then-s-at c = sym (le-none c.args.s.now c.args.at 1 c.if-s-at.true)
-
 pub returns : goal.returns
-returns c = sym (le-one c.args.s.now c.args.at (omega arith))
+returns c =
+    let a = c.args in
+    c.unwrap_or.ensures ∙ ap (λ o. unwrap_or o 0) c.copied.ensures ∙ c.get.ensures.lookup.4 (omega arith) 0 ∙ le_byte a.s.now a.at

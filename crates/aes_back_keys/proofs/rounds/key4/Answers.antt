@@ -1,9 +1,0 @@
--- `aes_back_keys::rounds::key4` meets its contract. Assumes nothing.
-use Rattle.aes.proofs.Quads.{read_word}
-use Rattle.aes_back_keys.proofs.rounds.key4.Goals as goal
-
-pub returns : goal.returns
-returns c =
-    let a = c.args in
-    read_word a.k.now a.at c.requires (λ j. (c.shared_slice_known-1.given j).fits)
-    c.u32_at.ensures

@@ -1,9 +1,0 @@
--- `aes_decipher::words::both` meets its contract. Assumes nothing.
-use Rattle.aes.specs.Words.{bytes_of}
-use Rattle.aes_loops.proofs.Stores.{block-added}
-use Rattle.aes_decipher.proofs.words.both.Goals as goal
-
-pub returns : goal.returns
-unfolding bytes_of
-returns c =
-    let a = c.args in block-added a.p a.v

@@ -1,0 +1,2 @@
+-- Definitions of crate aes_decipher: laws that its direction of the loops keeps.
+pub mod Rounds

@@ -1,0 +1,2 @@
+-- Laws of crate aes_key_sub.
+pub mod Table

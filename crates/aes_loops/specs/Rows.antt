@@ -1,0 +1,14 @@
+-- A column, gathered row by row. Assumes nothing.
+use Rattle.std.specs.Prelude.{ℕ, zero, suc, List, get_or}
+use Rattle.aes.specs.Aes.{add}
+use Rattle.aes.proofs.Words.{turn_list}
+
+-- turned by n bytes
+abbrev pub turns : ℕ → List ℕ → List ℕ
+turns zero l = l
+turns (suc n) l = turn_list (turns n l)
+
+-- k and what f makes of the first r bytes of a row, each turned by its place
+abbrev pub sums : (ℕ → List ℕ) → List ℕ → List ℕ → ℕ → List ℕ
+sums f row k zero = k
+sums f row k (suc r) = add (sums f row k r) (turns r (f (get_or row r 0)))

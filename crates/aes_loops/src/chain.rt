@@ -1,0 +1,43 @@
+// The blocks of a buffer, each chained to the one before it.
+ghost use Rattle.std.specs.Prelude.{◌≡◌, ◌++◌, ◌*◌, ◌/◌, length, drop};
+ghost use Rattle.aes.specs.Words.{bytes_of};
+ghost use Rattle.aes_loops.specs.Chain.{vector_of, blocks_of};
+
+use super::block::block;
+use super::direction::Direction;
+use super::words::{load, store};
+use aes::Quad;
+
+fn blocks<D: Direction>(k: &[u8], v: Quad, buf: &mut [u8]) -> Quad
+    requires { length k.now ≡ 240 }
+    ensures vector { bytes_of result ≡ vector_of (D.block_makes k.now) D.enters D.leaves D.carries (bytes_of v) buf.old
+        (length buf.old / 16) }
+    ensures buffer { buf.new ≡ blocks_of (D.block_makes k.now) D.enters D.leaves D.carries (bytes_of v) buf.old
+        (length buf.old / 16) ++ drop (length buf.old / 16 * 16) buf.old }
+{
+    let m = buf.len() / 16;
+    let mut v = v;
+    for i in 0..m {
+        let at = i * 16;
+        let x = load(buf, at);
+        let y = block::<D>(k, D::entering(v, x));
+        let z = D::leaving(v, y);
+        store(buf, at, z);
+        v = D::carried(x, z);
+    }
+    v
+}
+
+// The whole blocks of buf, ciphered in place under the round keys k from the vector v; the vector for the next call.
+pub fn chained<D: Direction>(k: &[u8], v: [u8; 16], buf: &mut [u8]) -> [u8; 16]
+    requires { length k.now ≡ 240 }
+    ensures vector { result ≡ vector_of (D.block_makes k.now) D.enters D.leaves D.carries v buf.old
+        (length buf.old / 16) }
+    ensures buffer { buf.new ≡ blocks_of (D.block_makes k.now) D.enters D.leaves D.carries v buf.old
+        (length buf.old / 16) ++ drop (length buf.old / 16 * 16) buf.old }
+{
+    let q = blocks::<D>(k, load(&v, 0), buf);
+    let mut next = [0u8; 16];
+    store(&mut next, 0, q);
+    next
+}

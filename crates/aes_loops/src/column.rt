@@ -1,0 +1,71 @@
+// One column of a round, row by row.
+ghost use Rattle.std.specs.Prelude.{◌≡◌, ℕ, List, [], ◌∷◌, ◌/◌, ◌%◌, ◌<◌};
+ghost use Rattle.aes.specs.Aes.{add};
+ghost use Rattle.aes.specs.Words.{bytes4};
+ghost use Rattle.aes.proofs.Quads.{slant};
+ghost use Rattle.aes_loops.specs.Rows.{turns, sums};
+
+use aes::Quad;
+
+// A look-up: what each byte of a row adds to the column, turned by its place.
+pub trait Look {
+    // What a byte adds in row 0.
+    ghost adds: { ℕ → List ℕ };
+
+    // What the row makes, all of it.
+    ghost makes: { List ℕ → List ℕ };
+
+    fn look(x: u8, r: u32) -> u32
+        requires { r < 4 }
+        ensures { bytes4 result ≡ turns r (adds x) };
+
+    ghost sum: { (x y z w k : ℕ) → sums adds (x ∷ y ∷ z ∷ w ∷ []) (bytes4 k) 4
+        ≡ add (makes (x ∷ y ∷ z ∷ w ∷ [])) (bytes4 k) };
+}
+
+// A word that is in w twice, turned by r bytes.
+pub fn turned(w: u64, r: u32) -> u32
+    requires w_value { w / 4294967296 ≡ w % 4294967296 }
+    requires r_bound { r < 4 }
+    ensures { bytes4 result ≡ turns r (bytes4 (w % 4294967296)) }
+{
+    match r {
+        0 => (w % 4294967296) as u32,
+        1 => (w / 16777216 % 4294967296) as u32,
+        2 => (w / 65536 % 4294967296) as u32,
+        _ => (w / 256 % 4294967296) as u32,
+    }
+}
+
+// A byte at place r of a word.
+pub fn placed(b: u8, r: u32) -> u32
+    requires { r < 4 }
+    ensures { bytes4 result ≡ turns r (b ∷ 0 ∷ 0 ∷ 0 ∷ []) }
+{
+    let x = u32::from(b);
+    match r {
+        0 => x,
+        1 => x * 256,
+        2 => x * 65536,
+        _ => x * 16777216,
+    }
+}
+
+// The word whose rows come from the words of s, one from each, with the round key's word k.
+pub fn gathered<L: Look>(s: Quad, k: u32) -> u32
+    ensures { bytes4 result ≡ add (L.makes (slant s.a s.b s.c s.d)) (bytes4 k) }
+{
+    let mut q = s;
+    let mut x = k;
+    for r in 0..4 {
+        let y = L::look((q.a % 256) as u8, r);
+        x ^= y;
+        q = Quad {
+            a: q.b / 256,
+            b: q.c / 256,
+            c: q.d / 256,
+            d: 0,
+        };
+    }
+    x
+}

@@ -1,2 +1,0 @@
--- The laws that the proofs of reply and cancel cite.
-pub mod TakeLaws

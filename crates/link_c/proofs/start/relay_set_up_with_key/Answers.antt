@@ -1,9 +1,0 @@
--- `link_c::relay_set_up_with_key` meets its contract. Assumes nothing.
-use Rattle.link_c.proofs.start.relay_set_up_with_key.Goals as goal
-
-pub returns : goal.returns
-returns c =
-    simp (
-      ← c.set_up_with_key.ensures,
-      c.set_up_fields.ensures,
-    )

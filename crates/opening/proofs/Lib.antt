@@ -1,2 +1,0 @@
--- Laws that the proofs of crate opening cite.
-pub mod ClockLaws

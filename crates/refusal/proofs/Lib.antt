@@ -1,0 +1,2 @@
+-- Lemmas of crate refusal.
+pub mod Passing

@@ -1,0 +1,2 @@
+-- Definitions of crate refusal: the numbers of refusals.
+pub mod Numbers

@@ -1,7 +1,0 @@
--- A byte, and 0 past the end. Assumes nothing.
-use mathlib.Core.Path.{sym}
-use lib.ListN.{get_or-eq_default}
-use Rattle.walk_events.proofs.events.byte_at.Goals as goal
-
-pub returns-then-s-at : goal.returns-then-s-at
-returns-then-s-at c = sym (get_or-eq_default c.args.s.now 0 c.if-s-at.true)
