@@ -493,19 +493,34 @@ typedef struct relay_dropped {
 
 /* What the archive has: the same calls, a peer by its two members. A program has no use for them; it makes the calls
  * below, which lend the table where it stands and copy none of it. */
-uint8_t relay_fresh_lent(relay_table *table, relay_publisher_number first);
-relay_asked relay_ask_lent(relay_table *table, uint8_t link, relay_front_number number, uint8_t publisher,
+uint8_t relay_table_fresh(relay_table *table, relay_publisher_number first);
+relay_asked relay_table_ask(relay_table *table, uint8_t link, relay_front_number number, uint8_t publisher,
+                            uint64_t time, uint32_t timeout);
+relay_replied relay_table_reply(relay_table *table, uint8_t publisher, relay_publisher_number number);
+relay_cancelled relay_table_cancel(relay_table *table, uint8_t link, relay_front_number number);
+relay_dropped relay_table_gone(relay_table *table, bool publisher, uint8_t number, int64_t *out, size_t n);
+relay_dropped relay_table_run_out(relay_table *table, uint64_t time, int64_t *out, size_t n);
+
+/* The same calls for a caller who keeps a table's members apart, each lent by itself. Each call copies them in, up to
+ * 1,872 bytes, and what it may change out again. */
+uint8_t relay_fresh_lent(uint64_t masks[9], int64_t numbers[136], uint64_t times[65], relay_publisher_number first);
+relay_asked relay_ask_lent(uint64_t masks[9], int64_t numbers[136], uint8_t places[128], uint8_t order[64],
+                           uint64_t times[65], uint8_t link, relay_front_number number, uint8_t publisher,
                            uint64_t time, uint32_t timeout);
-relay_replied relay_reply_lent(relay_table *table, uint8_t publisher, relay_publisher_number number);
-relay_cancelled relay_cancel_lent(relay_table *table, uint8_t link, relay_front_number number);
-relay_dropped relay_gone_lent(relay_table *table, bool publisher, uint8_t number, int64_t *out, size_t n);
-relay_dropped relay_run_out_lent(relay_table *table, uint64_t time, int64_t *out, size_t n);
+relay_replied relay_reply_lent(uint64_t masks[9], const int64_t numbers[136], const uint8_t places[128],
+                               uint8_t order[64], uint8_t publisher, relay_publisher_number number);
+relay_cancelled relay_cancel_lent(uint64_t masks[9], const int64_t numbers[136], const uint8_t places[128],
+                                  uint8_t order[64], uint8_t link, relay_front_number number);
+relay_dropped relay_gone_lent(uint64_t masks[9], const int64_t numbers[136], const uint8_t places[128],
+                              uint8_t order[64], bool publisher, uint8_t number, int64_t *out, size_t n);
+relay_dropped relay_run_out_lent(uint64_t masks[9], const int64_t numbers[136], const uint8_t places[128],
+                                 uint8_t order[64], uint64_t times[65], uint64_t time, int64_t *out, size_t n);
 
 /* Makes an empty table of whatever stands there; first is the first number of every publisher. It has seen the time 0.
  * Answers 0, or 30 for a first number below 1: all members are then as they were, and what was no table before must not
  * be used. */
 static inline uint8_t relay_fresh(relay_table *table, relay_publisher_number first) {
-    return relay_fresh_lent(table, first);
+    return relay_table_fresh(table, first);
 }
 
 /* Times and deadlines. The caller brings the present time, in milliseconds of any one clock, below 2^62: since a start,
@@ -524,7 +539,7 @@ static inline uint8_t relay_fresh(relay_table *table, relay_publisher_number fir
  * room is left that is not kept for the 4 of another. */
 static inline relay_asked relay_ask_by(relay_table *table, uint8_t link, relay_front_number number, uint8_t publisher,
                                        uint64_t time, uint32_t timeout) {
-    return relay_ask_lent(table, link, number, publisher, time, timeout);
+    return relay_table_ask(table, link, number, publisher, time, timeout);
 }
 
 /* The same of a request without a deadline, for a caller who has no clock at hand: it sees no time. */
@@ -535,13 +550,13 @@ static inline relay_asked relay_ask(relay_table *table, uint8_t link, relay_fron
 /* Frees the request that a publisher replied to; answers its link and front number. Refused with 30 for a publisher out
  * of range, 12 for a number of 0, and 34 where the publisher has no such request. */
 static inline relay_replied relay_reply(relay_table *table, uint8_t publisher, relay_publisher_number number) {
-    return relay_reply_lent(table, publisher, number);
+    return relay_table_reply(table, publisher, number);
 }
 
 /* Frees the request that a front end cancelled; answers its publisher and publisher number. Refused with 30 for a link
  * out of range, 12 for a number of 0, and 34 where the link has no such request. */
 static inline relay_cancelled relay_cancel(relay_table *table, uint8_t link, relay_front_number number) {
-    return relay_cancel_lent(table, link, number);
+    return relay_table_cancel(table, link, number);
 }
 
 /* A peer is gone: frees all its requests and writes the other end of each to the front of out, oldest accepted first;
@@ -553,7 +568,7 @@ static inline relay_cancelled relay_cancel(relay_table *table, uint8_t link, rel
  * Refused with 30 for a link over 31 or a publisher over 7, and 16 where out, n numbers long, has not two for each:
  * RELAY_ALL_ENDS always do. The numbers of a lost publisher go on where they were. */
 static inline relay_dropped relay_gone(relay_table *table, relay_peer peer, int64_t *out, size_t n) {
-    return relay_gone_lent(table, peer.publisher, peer.number, out, n);
+    return relay_table_gone(table, peer.publisher, peer.number, out, n);
 }
 
 /* Deadlines that have come: frees all requests whose deadline is at or before the present time (the latest time seen,
@@ -569,7 +584,7 @@ static inline relay_dropped relay_gone(relay_table *table, relay_peer peer, int6
  * always do. With n of 0 it thus tells whether a deadline has come: 16 if one has, else it answers 0 and sees its time.
  */
 static inline relay_dropped relay_run_out(relay_table *table, uint64_t time, int64_t *out, size_t n) {
-    return relay_run_out_lent(table, time, out, n);
+    return relay_table_run_out(table, time, out, n);
 }
 
 #ifdef __cplusplus

@@ -1,7 +1,7 @@
 -- Blocks as four words: read, stored, and what their rows are. Assumes nothing.
 use mathlib.Core.Path.{◌≡◌, refl, sym, ap, ap₂, ◌∙◌}
-use mathlib.Core.List.{List, [], ◌∷◌, ◌++◌}
-use Prim.Native.Nat.{ℕ, ◌/◌, ◌%◌}
+use mathlib.Core.List.{List, ◌++◌}
+use Prim.Native.Nat.{ℕ}
 use native.Mathlib.Omega.{arith}
 use lib.ListN.{length, take}
 use lib.Seq.{sets, length-sets, take_all}
@@ -12,10 +12,6 @@ use Rattle.aes.specs.Words.{bytes4, bytes_of}
 pub join4 : {p q r s p' q' r' s' : List ℕ} → p ≡ p' → q ≡ q' → r ≡ r' → s ≡ s'
     → p ++ (q ++ (r ++ s)) ≡ p' ++ (q' ++ (r' ++ s'))
 join4 p q r s = ap₂ ◌++◌ p (ap₂ ◌++◌ q (ap₂ ◌++◌ r s))
-
--- row r of the j-th column comes from the column r places on
-abbrev pub slant : ℕ → ℕ → ℕ → ℕ → List ℕ
-slant a b c d = a % 256 ∷ b / 256 % 256 ∷ c / 65536 % 256 ∷ d / 16777216 % 256 ∷ []
 
 pub sixteen : (q : Quad) → length (bytes_of q) ≡ 16
 unfolding bytes_of bytes4

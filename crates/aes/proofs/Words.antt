@@ -11,7 +11,7 @@ use lib.ListN.{length, get_or, take, drop}
 use lib.Seq.{drop-cons, take-add, drop-drop, take-take}
 use lib.Bits.{bit_xor, xor_shr, xor_mod}
 use Rattle.aes.specs.Aes.{add}
-use Rattle.aes.specs.Words.{bytes4}
+use Rattle.aes.specs.Words.{bytes4, turn_list}
 
 pub list4 : {a b c d a' b' c' d' : ℕ} → a ≡ a' → b ≡ b' → c ≡ c' → d ≡ d'
     → ◌≡◌ {A = List ℕ} (a ∷ b ∷ c ∷ d ∷ []) (a' ∷ b' ∷ c' ∷ d' ∷ [])
@@ -31,10 +31,6 @@ pub packed : {a b c d : ℕ} → a < 256 → b < 256 → c < 256 → d < 256
     → bytes4 (a + b * 256 + c * 65536 + d * 16777216) ≡ a ∷ b ∷ c ∷ d ∷ []
 unfolding bytes4
 packed ha hb hc hd = list4 (omega arith) (omega arith) (omega arith) (omega arith)
-
--- turned by one, two and three bytes
-abbrev pub turn_list : List ℕ → List ℕ
-turn_list l = get_or l 3 0 ∷ get_or l 0 0 ∷ get_or l 1 0 ∷ get_or l 2 0 ∷ []
 
 -- a word is its bytes put together
 sum4 : (x a b c d e f : ℕ) → x ≡ d * 16777216 + e → e ≡ c * 65536 + f → f ≡ b * 256 + a

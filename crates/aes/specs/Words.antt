@@ -1,6 +1,6 @@
 -- Words of four bytes as numbers, the first byte lowest, and the products that an engine looks up. Only how a block is
 -- computed speaks of these; what the cipher is does not. Assumes nothing.
-use Rattle.std.specs.Prelude.{ℕ, ◌/◌, ◌%◌, List, [], ◌∷◌, ◌++◌}
+use Rattle.std.specs.Prelude.{ℕ, ◌/◌, ◌%◌, List, [], ◌∷◌, ◌++◌, get_or}
 use Rattle.aes.specs.declared.Quad.{Quad}
 use Rattle.aes.specs.Field.{mul, sbox}
 
@@ -19,3 +19,11 @@ products x = mul (sbox x) 2 ∷ mul (sbox x) 1 ∷ mul (sbox x) 1 ∷ mul (sbox 
 -- the products of y with the first column of InvMixColumns' matrix
 unfoldable pub unproducts : ℕ → List ℕ
 unproducts y = mul y 14 ∷ mul y 9 ∷ mul y 13 ∷ mul y 11 ∷ []
+
+-- the bytes of a word, its last one first
+abbrev pub turn_list : List ℕ → List ℕ
+turn_list l = get_or l 3 0 ∷ get_or l 0 0 ∷ get_or l 1 0 ∷ get_or l 2 0 ∷ []
+
+-- the rows of a column whose first row is in a, the second in b, and so on: each word gives one byte
+abbrev pub slant : ℕ → ℕ → ℕ → ℕ → List ℕ
+slant a b c d = a % 256 ∷ b / 256 % 256 ∷ c / 65536 % 256 ∷ d / 16777216 % 256 ∷ []

@@ -9,8 +9,8 @@ use lib.Seq.{sets, sets-eq, take_at, drop_at, drop-drop, take_all, length-take-l
 use lib.Bits.{bit_xor}
 use Rattle.aes.specs.Aes.{add, columns, cell, unmix_columns, round_key}
 use Rattle.aes.specs.Back.{back_to, back_keys}
-use Rattle.aes.specs.Words.{bytes4, unproducts}
-use Rattle.aes.proofs.Words.{bytes4-xor, turn_list}
+use Rattle.aes.specs.Words.{bytes4, unproducts, turn_list}
+use Rattle.aes.proofs.Words.{bytes4-xor}
 use Rattle.aes.proofs.Quads.{join4}
 
 pub column0 : (x y z w p q r s : ℕ) → bytes4 p ≡ unproducts x → bytes4 q ≡ turn_list (unproducts y) → bytes4 r
@@ -35,6 +35,11 @@ unmix-law a b c d ep eq er es = join4 ep eq er es ∙ whole a b c d
 -- ---- rounds: the first n + 1 are done, and the rest of d is that of w
 module _ (w : List ℕ) (n : ℕ) (d : List ℕ) (long : length (back_to n w) ≡ n * 16 + 16)
     (held : d ≡ back_to n w ++ drop (n * 16 + 16) w) where
+  -- it keeps its length
+  pub long-held : n * 16 + 16 ≤ length w → length d ≡ length w
+  long-held h = ap length held ∙ length-append (back_to n w) (drop (n * 16 + 16) w)
+      ∙ omega (arith, long, length-drop (n * 16 + 16) w)
+
   module _ (x : List ℕ) (lx : length x ≡ 16) (ex : x ≡ unmix_columns (take 16 (drop (n * 16 + 16) d))) where
     is_key : x ≡ unmix_columns (round_key (suc n) w)
     unfolding round_key

@@ -35,9 +35,12 @@ fn all_rounds(d: &mut [u8])
 {
     for n in 0..13 {
         let at = n * 16 + 16;
-        let y = load(d, at);
+        let y = load(d[at..at + 16].first_chunk().unwrap());
         let x = unmix(y);
-        store(d, at, x);
+        // By way of an array, as in aes_loops.
+        let mut key = [0u8; 16];
+        store(&mut key, x);
+        d[at..at + 16].copy_from_slice(&key);
     }
 }
 

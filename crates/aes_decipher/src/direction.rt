@@ -6,7 +6,7 @@ ghost use Rattle.aes.specs.Back.{back_cipher};
 ghost use Rattle.aes.specs.Words.{unproducts};
 ghost use Rattle.aes_loops.specs.Rounds.{facing, backward};
 ghost use Rattle.aes_loops.proofs.Turns.{back-mixed-sums, back-unmixed-sums};
-ghost use Rattle.aes_decipher.specs.Rounds.{mixed-round, unmixed-round, cipher-is};
+ghost use Rattle.aes_loops.proofs.Backward.{mixed-round, unmixed-round, cipher-is};
 
 use aes::Quad;
 use aes_back_columns::back_column_of;
@@ -94,7 +94,7 @@ impl Direction for Deciphering {
 
     // The last round key comes first.
     fn place(n: usize) -> usize {
-        224 - 16 * n
+        224 - 16 * n.min(14)
     }
 
     fn entering(_v: Quad, x: Quad) -> Quad {

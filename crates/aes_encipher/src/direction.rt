@@ -5,7 +5,7 @@ ghost use Rattle.aes.specs.Aes.{add, sub_bytes, shift_rows, mix_columns, cipher}
 ghost use Rattle.aes.specs.Words.{products};
 ghost use Rattle.aes_loops.specs.Rounds.{onward};
 ghost use Rattle.aes_loops.proofs.Turns.{mixed-sums, unmixed-sums};
-ghost use Rattle.aes_encipher.specs.Rounds.{mixed-round, unmixed-round, cipher-is};
+ghost use Rattle.aes_loops.proofs.Forth.{mixed-round, unmixed-round, cipher-is};
 
 use aes::Quad;
 use aes_columns::column_of;
@@ -87,7 +87,7 @@ impl Direction for Enciphering {
     }
 
     fn place(n: usize) -> usize {
-        16 * n
+        16 * n.min(14)
     }
 
     // Each block is added to the ciphered one before it.

@@ -3,14 +3,14 @@ use mathlib.Core.Path.{◌≡◌, refl, sym, ap, ap₂, ◌∙◌}
 use mathlib.Core.List.{List, ◌++◌}
 use Prim.Native.Nat.{ℕ, suc, ◌+◌, ◌*◌, ◌-◌, ◌≤◌, ◌<◌}
 use native.Mathlib.Omega.{arith}
-use lib.ListN.{length, take, drop, length-append, length-take}
+use lib.ListN.{length, get_or, take, drop, length-append, length-take}
 use lib.Seq.{sets, sets-eq, take_at}
 use lib.Bits.{bit_xor}
-use Rattle.wire.specs.Bytes.{bytes}
+use Rattle.wire.specs.Bytes.{le, part, bytes}
 use Rattle.aes.specs.Aes.{add, temp, next, grown, schedule}
-use Rattle.wire.proofs.ByteLaws.{part-sets}
+use Rattle.wire.proofs.ByteLaws.{le-4, part-sets}
 use Rattle.aes.specs.Words.{bytes4}
-use Rattle.aes.proofs.Words.{list4, bytes4-xor, take-window}
+use Rattle.aes.proofs.Words.{list4, read4, bytes4-xor, take-window}
 
 same4 : (x : ℕ) → bytes 4 x ≡ bytes4 x
 unfolding bytes bytes4
@@ -19,6 +19,14 @@ same4 x = list4 refl refl (omega arith) (omega arith)
 long4 : (x : ℕ) → length (bytes4 x) ≡ 4
 unfolding bytes4
 long4 x = refl
+
+-- a word that is read
+pub read_word : {r : ℕ} (l : List ℕ) (at : ℕ) → at + 4 ≤ length l → ((j : ℕ) → get_or l j 0 < 256) → r ≡ le (part l at 4)
+    → bytes4 r ≡ take 4 (drop at l)
+read_word l at h low e =
+    let f : le (part l at 4) ≡ get_or l at 0 + get_or l (at + 1) 0 * 256 + get_or l (at + 2) 0 * 65536 + get_or l (at + 3)
+    0 * 16777216 = le-4 l at h ∙ omega arith in
+    ap bytes4 (e ∙ f) ∙ read4 l at h low
 
 module _ (k w w' : List ℕ) (n p x y : ℕ) (few : 8 + n < 60) (long : length w ≡ 240)
     (held : take ((8 + n) * 4) w ≡ schedule n k)

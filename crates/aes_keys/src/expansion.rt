@@ -4,9 +4,18 @@ ghost use Rattle.aes.specs.Aes.{rcon, temp, keys};
 ghost use Rattle.aes.specs.Words.{bytes4};
 
 use super::substitution::sub_word;
-use aes_loops::{rotated, word_at};
+use aes_loops::rotated;
 use store::put_u32;
 use store_bytes::copy;
+use wire::u32_at;
+
+// The word at an offset.
+fn key4(k: &[u8], at: usize) -> u32
+    requires { at + 4 ≤ length k.now }
+    ensures { bytes4 result ≡ take 4 (drop at k.now) }
+{
+    u32_at(k, at)
+}
 
 // The round constants.
 #[tactic(auto, unfolding(aes::specs::Words::bytes4, aes::specs::Aes::rcon, aes::specs::Field::xtime))]
@@ -46,9 +55,9 @@ fn expand(w: &mut [u8])
     ensures { w.new ≡ keys (take 32 w.old) }
 {
     for i in 8..60 {
-        let p = word_at(w, i * 4 - 4);
+        let p = key4(w, i * 4 - 4);
         let x = temp(i, p);
-        let y = word_at(w, i * 4 - 32);
+        let y = key4(w, i * 4 - 32);
         put_u32(w, i * 4, y ^ x);
     }
 }

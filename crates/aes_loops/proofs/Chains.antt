@@ -1,6 +1,6 @@
 -- Blocks in a buffer: it holds the first i blocks as they were stored, and the rest as it was. Assumes nothing.
 use Rattle.std.proofs.Common.{◌≡◌, ℕ, ◌+◌, ◌*◌, ◌≤◌, List, ◌++◌, length, take, drop, refl, sym, ap, ap₂, ◌∙◌, add-one, arith}
-use lib.ListN.{length-append}
+use lib.ListN.{length-append, length-drop}
 use lib.Seq.{sets, sets-eq, take_at, drop_at, drop-drop}
 use Rattle.aes.specs.Cbc.{block_at}
 use Rattle.aes_loops.specs.Chain.{stored, vector_of, blocks_of}
@@ -30,6 +30,11 @@ module _ (f : List ℕ → List ℕ) (enters leaves carries : List ℕ → List 
   held-none = refl
 
   module _ (i : ℕ) (b : List ℕ) (long : length (blocks i) ≡ i * 16) (held : b ≡ blocks i ++ drop (i * 16) s) where
+    -- the buffer keeps its length
+    pub long-held : i * 16 ≤ length s → length b ≡ length s
+    long-held h = ap length held ∙ length-append (blocks i) (drop (i * 16) s)
+        ∙ omega (arith, long, length-drop (i * 16) s)
+
     read-block : take 16 (drop (i * 16) b) ≡ block_at i s
     unfolding block_at
     read-block = ap (λ (l : List ℕ). take 16 (drop (i * 16) l)) held

@@ -1,11 +1,12 @@
 -- Words and blocks, read and stored byte by byte. Assumes nothing.
 use mathlib.Core.Path.{◌≡◌, refl, sym, ap, ◌∙◌}
-use mathlib.Core.List.{List, [], ◌∷◌, ◌++◌}
-use Prim.Native.Nat.{ℕ, suc, ◌+◌, ◌≤◌, ◌<◌}
+use mathlib.Core.List.{List, [], ◌∷◌, ◌++◌, append_assoc}
+use Prim.Native.Nat.{ℕ, suc, ◌+◌, ◌-◌, ◌≤◌, ◌<◌}
 use native.Mathlib.Omega.{arith}
+use borrow.Rule.Slice.PartMut.{put_mid}
 use lib.Bits.{bit_xor}
 use lib.ListN.{length, set, take, drop, length-set}
-use lib.Seq.{sets}
+use lib.Seq.{sets, sets-eq, take-take, drop-drop}
 use Rattle.wire.proofs.StoreLaws.{runs-4}
 use Rattle.aes.specs.declared.Quad.{Quad}
 use Rattle.aes.specs.Aes.{add}
@@ -55,6 +56,19 @@ pub block_read : (l : List ℕ) (at k0 k1 k2 k3 : ℕ) → bytes4 k0 ≡ take 4 
     ≡ take 4 (drop (at + 4) l) → bytes4 k2 ≡ take 4 (drop (at + 8) l) → bytes4 k3 ≡ take 4 (drop (at + 12) l)
     → bytes4 k0 ++ (bytes4 k1 ++ (bytes4 k2 ++ bytes4 k3)) ≡ take 16 (drop at l)
 block_read l at k0 k1 k2 k3 e0 e1 e2 e3 = join4 e0 e1 e2 e3 ∙ sym (quarters l at)
+
+-- a block, as the slice of it has it in front
+pub chunk-here : (l : List ℕ) (at : ℕ) → take 16 (take (at + 16 - at) (drop at l)) ≡ take 16 (drop at l)
+chunk-here l at = take-take 16 (at + 16 - at) (drop at l) (omega arith)
+
+-- a block, stored in a part of a list
+pub part-stored : {y : List ℕ} (d b : List ℕ) (at : ℕ) → y ≡ b → length b ≡ 16 → at + 16 ≤ length d
+    → put_mid at (at + 16 - at) d y ≡ sets d at b
+part-stored d b at f l g =
+    let e : at + 16 - at ≡ 16 = omega arith in
+    ap (put_mid at (at + 16 - at) d) f
+    ∙ rw e (ap (λ (k : List ℕ). take at d ++ (b ++ k)) (drop-drop 16 at d)
+    ∙ sym (rw l at (sets-eq b d at (rw l g)) ∙ append_assoc (take at d) b (drop (at + 16) d)))
 
 -- two blocks, added
 pub block-added : (p v : Quad)

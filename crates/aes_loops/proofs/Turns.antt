@@ -9,15 +9,32 @@ use lib.Dec.{lit<}
 use lib.ListN.{length, get_or, take, drop, length-drop, get_or-eq_default}
 use lib.Seq.{length-take-le}
 use lib.Bits.{bit_xor, xor_comm, xor_zero_r}
+use Rattle.wire.specs.Bytes.{bytes}
 use Rattle.aes.specs.declared.Quad.{Quad}
 use Rattle.aes.specs.Field.{mul, sbox, unsbox}
 use Rattle.aes.specs.Aes.{add, sub_bytes, unsub_bytes, cell, columns, mix_columns, unmix_columns}
-use Rattle.aes.specs.Words.{bytes4, products, unproducts}
+use Rattle.aes.specs.Words.{bytes4, products, unproducts, slant}
 use Rattle.aes.proofs.Xor.{xor_assoc}
-use Rattle.aes_loops.specs.Rows.{turns, sums}
+use Rattle.aes_loops.specs.Rows.{turns, ending, sums}
 use Rattle.aes_loops.specs.Rounds.{Done}
 use Rattle.aes.proofs.Words.{list4, turned8, turned16, turned24, quarters}
-use Rattle.aes.proofs.Quads.{slant}
+
+-- ---- four of w's eight bytes
+pub ending-0 : (w : ℕ) → bytes4 (w % 4294967296) ≡ ending w 0
+unfolding bytes bytes4
+ending-0 w = list4 (omega arith) (omega arith) (omega arith) (omega arith)
+
+pub ending-1 : (w : ℕ) → bytes4 (w / 16777216 % 4294967296) ≡ ending w 1
+unfolding bytes bytes4
+ending-1 w = list4 (omega arith) (omega arith) (omega arith) (omega arith)
+
+pub ending-2 : (w : ℕ) → bytes4 (w / 65536 % 4294967296) ≡ ending w 2
+unfolding bytes bytes4
+ending-2 w = list4 (omega arith) (omega arith) (omega arith) (omega arith)
+
+pub ending-3 : (w : ℕ) → bytes4 (w / 256 % 4294967296) ≡ ending w 3
+unfolding bytes bytes4
+ending-3 w = list4 (omega arith) (omega arith) (omega arith) (omega arith)
 
 -- ---- a word that is in w twice, turned
 top-1 : (w x q : ℕ) → q < 16777216 → w ≡ x * 16777216 + q → w / 16777216 ≡ x
@@ -83,6 +100,14 @@ module _ (w : ℕ) (e : w / 4294967296 ≡ w % 4294967296) where
       ap bytes4 (ap (λ (x : ℕ). x % 4294967296) (top-3 w (l * 16777216 + l / 256) (l % 256) h
       (split-3 w l (l / 256) (l % 256) whole f)) ∙ kept-3 l (l / 256) (l % 256) h g f)
       ∙ turned24 low
+
+  -- so four of its bytes are the word turned
+  pub twice-ending : (r : ℕ) → r < 4 → ending w r ≡ turns r (bytes4 (w % 4294967296))
+  twice-ending zero h = sym (ending-0 w)
+  twice-ending (suc zero) h = sym (ending-1 w) ∙ twice-1
+  twice-ending (suc (suc zero)) h = sym (ending-2 w) ∙ twice-2
+  twice-ending (suc (suc (suc zero))) h = sym (ending-3 w) ∙ twice-3
+  twice-ending (suc (suc (suc (suc r)))) h = absurd (omega arith)
 
 -- a byte at a place of a word
 pub placed-0 : {b : ℕ} → b < 256 → bytes4 b ≡ turns 0 (b ∷ 0 ∷ 0 ∷ 0 ∷ [])

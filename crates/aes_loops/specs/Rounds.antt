@@ -2,8 +2,7 @@
 use Rattle.std.specs.Prelude.{◌≡◌, ℕ, zero, suc, ◌+◌, ◌*◌, ◌≤◌, List, length, take, drop}
 use Rattle.aes.specs.declared.Quad.{Quad}
 use Rattle.aes.specs.Aes.{add}
-use Rattle.aes.specs.Words.{bytes4, bytes_of}
-use Rattle.aes.proofs.Quads.{slant}
+use Rattle.aes.specs.Words.{bytes4, bytes_of, slant}
 
 -- the last j words of o are the first j columns
 abbrev pub Done : (ℕ → List ℕ) → ℕ → Quad → Type 0

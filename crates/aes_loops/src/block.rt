@@ -41,11 +41,12 @@ fn round<D: Direction, L: Look>(k: &[u8], at: usize, s: Quad) -> Quad
 }
 
 // One block.
-pub(crate) fn block<D: Direction>(k: &[u8], s: Quad) -> Quad
-    requires { length k.now ≡ 240 }
+pub(crate) fn block<D: Direction>(k: &[u8; 240], s: Quad) -> Quad
     ensures { bytes_of result ≡ D.block_makes k.now (bytes_of s) }
 {
-    let mut x = both(s, load(k, D::place(0)));
+    let at = D::place(0);
+    let first = load(k[at..at + 16].first_chunk().unwrap());
+    let mut x = both(s, first);
     for n in 0..13 {
         x = round::<D, D::Inner>(k, D::place(n + 1), x);
     }

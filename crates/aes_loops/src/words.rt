@@ -1,5 +1,5 @@
 // Words of four bytes, the first lowest, and four of them: a block.
-ghost use Rattle.std.specs.Prelude.{◌≡◌, ◌+◌, ◌≤◌, ◌<◌, length, take, drop};
+ghost use Rattle.std.specs.Prelude.{◌≡◌, ◌+◌, ◌≤◌, ◌%◌, length, take, drop};
 ghost use Rattle.std.proofs.lemmas.List.Edits.{sets};
 ghost use Rattle.aes.specs.Aes.{add};
 ghost use Rattle.aes.specs.Words.{bytes4, bytes_of};
@@ -8,7 +8,7 @@ ghost use Rattle.aes_loops.specs.Rows.{turns};
 use aes::Quad;
 
 // The word at an offset: of four reads in bounds the compiler makes one.
-pub fn word_at(k: &[u8], at: usize) -> u32
+pub(crate) fn word_at(k: &[u8], at: usize) -> u32
     requires { at + 4 ≤ length k.now }
     ensures { bytes4 result ≡ take 4 (drop at k.now) }
 {
@@ -31,23 +31,20 @@ fn put_word(b: &mut [u8], at: usize, x: u32)
 
 // A word, turned by r bytes: its last byte comes first, r times.
 pub fn rotated(x: u32, r: u32) -> u32
-    requires below { 0 < r }
-    requires within { r < 4 }
-    ensures { bytes4 result ≡ turns r (bytes4 x) }
+    ensures { bytes4 result ≡ turns (r % 4) (bytes4 x) }
 {
-    x.rotate_left(8 * r)
+    x.rotate_left(8 * (r % 4))
 }
 
-// A block, read at an offset.
-pub fn load(b: &[u8], at: usize) -> Quad
-    requires { at + 16 ≤ length b.now }
-    ensures { bytes_of result ≡ take 16 (drop at b.now) }
+// A block, read.
+pub fn load(b: &[u8; 16]) -> Quad
+    ensures { bytes_of result ≡ b.now }
 {
     Quad {
-        a: word_at(b, at),
-        b: word_at(b, at + 4),
-        c: word_at(b, at + 8),
-        d: word_at(b, at + 12),
+        a: word_at(b, 0),
+        b: word_at(b, 4),
+        c: word_at(b, 8),
+        d: word_at(b, 12),
     }
 }
 
@@ -63,13 +60,12 @@ pub fn both(p: Quad, v: Quad) -> Quad
     }
 }
 
-// A block, stored at an offset.
-pub fn store(b: &mut [u8], at: usize, s: Quad)
-    requires { at + 16 ≤ length b.old }
-    ensures { b.new ≡ sets b.old at (bytes_of s) }
+// A block, stored.
+pub fn store(b: &mut [u8; 16], s: Quad)
+    ensures { b.new ≡ bytes_of s }
 {
-    put_word(b, at, s.a);
-    put_word(b, at + 4, s.b);
-    put_word(b, at + 8, s.c);
-    put_word(b, at + 12, s.d);
+    put_word(b, 0, s.a);
+    put_word(b, 4, s.b);
+    put_word(b, 8, s.c);
+    put_word(b, 12, s.d);
 }

@@ -34,7 +34,7 @@ fn ask_fields(a: Result<PublisherNumber, Refusal>) -> RelayAsked
 // A table starts at a first publisher number: a refusal's number, or 0. `places`, `order` and the
 // deadlines of slots stay in any case.
 #[unsafe(no_mangle)]
-pub extern "C" fn relay_fresh_lent(table: &mut Table, first: PublisherNumber) -> u8
+pub extern "C" fn relay_table_fresh(table: &mut Table, first: PublisherNumber) -> u8
     ensures { (result ≡ started_refusal (fresh_of table.old first).answer)
         × (table.new ≡ (fresh_of table.old first).table) }
 {
@@ -45,7 +45,7 @@ pub extern "C" fn relay_fresh_lent(table: &mut Table, first: PublisherNumber) ->
 // Ask (link, number, publisher), at a time in ms and with a timeout, both 0 for an ask without: accepted with a
 // publisher number, or refused.
 #[unsafe(no_mangle)]
-pub extern "C" fn relay_ask_lent(
+pub extern "C" fn relay_table_ask(
     table: &mut Table,
     link: u8,
     number: FrontNumber,

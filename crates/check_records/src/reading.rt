@@ -45,15 +45,3 @@ pub fn array<const N: usize>(s: &[u8]) -> [u8; N]
     copy(&mut a, 0, s);
     a
 }
-
-// Runs the step on one record after another, until it finds none or an error ends it.
-pub fn each_record<F: FnMut() -> io::Result<bool>>(mut step: F) -> io::Result<()>
-    requires { F.IsAlwaysCallable step }
-{
-    for _ in 0..u64::MAX {
-        if !step()? {
-            break;
-        }
-    }
-    Ok(())
-}

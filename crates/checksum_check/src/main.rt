@@ -2,7 +2,7 @@
 // first part ends (4 bytes), and n bytes; its line is n and the four sums. First, and proved: the published values.
 #![tactic(auto)]
 
-use check_records::{each_record, fill, sum};
+use check_records::{fill, sum};
 use std::io::{self, Read};
 
 // The longest input that a record may have.
@@ -44,5 +44,10 @@ fn main(rt: HostRuntime) -> io::Result<()> {
     let castagnoli = checksum::crc32c(b"123456789");
     prove!(castagnoli == 0xe306_9283);
     let mut input = rt.reader();
-    each_record(|| record(&mut input, &rt))
+    for _ in 0..u64::MAX {
+        if !record(&mut input, &rt)? {
+            break;
+        }
+    }
+    Ok(())
 }

@@ -35,7 +35,7 @@ fn peer_of(publisher: bool, number: u8) -> Peer
 // A peer is gone: frees all its requests and writes the other end of each, link and front number for a publisher that
 // was lost, publisher and publisher number for a front link that closed.
 #[unsafe(no_mangle)]
-pub extern "C" fn relay_gone_lent(
+pub extern "C" fn relay_table_gone(
     table: &mut Table,
     publisher: bool,
     number: u8,
@@ -53,7 +53,7 @@ pub extern "C" fn relay_gone_lent(
 // Frees all requests whose deadline is at or before the latest time seen, the call's own among them, and writes link
 // and front number of each.
 #[unsafe(no_mangle)]
-pub extern "C" fn relay_run_out_lent(table: &mut Table, time: u64, out: &mut [i64]) -> RelayDropped
+pub extern "C" fn relay_table_run_out(table: &mut Table, time: u64, out: &mut [i64]) -> RelayDropped
     ensures { (result ≡ drop_fields (run_out_of table.old time out.old).answer)
         × (table.new ≡ (run_out_of table.old time out.old).table)
         × (out.new ≡ (run_out_of table.old time out.old).slice) }

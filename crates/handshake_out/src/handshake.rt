@@ -6,7 +6,7 @@ ghost use Rattle.handshake_out.specs.Handshake.{flags_of, pid_bytes, handshake_b
 use handshake_in::NetPid;
 use link_state::Link;
 use packet::HANDSHAKE;
-use send_rules::{Step, control_step};
+use send_rules::{ControlBody, Step, control_step};
 use store::{put_u16, put_u32};
 
 // 0x800 where we offer CRC-32C, or grant it.
@@ -32,13 +32,25 @@ fn put_pid(buf: &mut [u8], at: usize, p: NetPid)
     put_u32(buf, at + 8, p.start);
 }
 
-// The body, from byte 12 of the buffer on.
-fn put_handshake(buf: &mut [u8], flags: u32, sender: NetPid, peer: NetPid)
-    ensures { buf.new ≡ sets buf.old 12 (handshake_body flags sender peer) }
-{
-    put_u32(buf, 12, flags);
-    put_pid(buf, 16, sender);
-    put_pid(buf, 28, peer);
+#[derive(Clone, Copy)]
+struct Handshake {
+    flags: u32,
+    sender: NetPid,
+    peer: NetPid,
+}
+
+impl ControlBody for Handshake {
+    ghost body = { λ what. handshake_body what.flags what.sender what.peer };
+
+    fn size(&self) -> usize {
+        28
+    }
+
+    fn put(&self, buf: &mut [u8]) {
+        put_u32(buf, 12, self.flags);
+        put_pid(buf, 16, self.sender);
+        put_pid(buf, 28, self.peer);
+    }
 }
 
 // Our Handshake, with the NetPIDs as the caller gives them.
@@ -46,7 +58,10 @@ pub fn handshake_step(link: Link, buf: &mut [u8], sender: NetPid, peer: NetPid) 
     ensures { (result ≡ handshake_step link sender peer (length buf.old))
         × (buf.new ≡ handshake_buffer link sender peer buf.old) }
 {
-    control_step(link, buf, HANDSHAKE, false, 0, 28, |b| {
-        put_handshake(b, flags(link), sender, peer);
-    })
+    let what = Handshake {
+        flags: flags(link),
+        sender,
+        peer,
+    };
+    control_step(link, buf, HANDSHAKE, false, 0, &what)
 }

@@ -40,8 +40,7 @@ fn none_of_four(numbers: &[i64; 136], i: usize, n: FrontNumber) -> bool
 }
 
 // The first of four slots that the lowest bits of m have and whose request has a link and a front number, looked at one
-// by one; 64 where there is none. It is not inlined: beside the one test for all four, the compiler would break that up.
-#[inline(never)]
+// by one; 64 where there is none.
 fn one_of_four(
     numbers: &[i64; 136],
     places: &[u8; 128],

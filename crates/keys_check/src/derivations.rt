@@ -34,12 +34,20 @@ fn answer(out: &impl Print, derived: Result<Derived, Refusal>, buf: &[u8]) -> io
     println!(out)
 }
 
+// The longest buffer.
+const MOST: usize = 8192;
+
+fn room(head: &[u8]) -> usize {
+    u32_at(head, 86) as usize
+}
+
+// Judged before the key is read, so that a record that ends the program keeps it waiting for no more.
+pub(crate) fn has_room(head: &[u8]) -> bool {
+    room(head) <= MOST
+}
+
 pub(crate) fn line(out: &impl Print, head: &[u8], key: &[u8]) -> io::Result<bool> {
-    let mut space = [0; 8192];
-    let room = u32_at(head, 86) as usize;
-    if space.len() < room {
-        return Ok(false);
-    }
+    let mut space = [0; MOST];
     let ends = Ends {
         client: end_of(part(head, 2, 26)),
         server: end_of(part(head, 28, 26)),
@@ -51,7 +59,7 @@ pub(crate) fn line(out: &impl Print, head: &[u8], key: &[u8]) -> io::Result<bool
         ends,
         shared,
     };
-    let buf = &mut space[..room];
+    let buf = &mut space[..room(head).min(MOST)];
     buf.fill(u8_at(head, 90));
     let derived = derive(buf, &what, key);
     answer(out, derived, buf)?;

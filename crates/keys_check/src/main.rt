@@ -8,23 +8,19 @@ mod digests;
 mod nonces;
 mod set_ups;
 
-use check_records::{each_record, fill, fill_front, front};
+use check_records::{fill, fill_front, front};
 use std::io::{self, Read};
 use wire::u32_at;
 
-// Reads a record, a head with the length at a place of it and so many bytes, and has its line printed; false at the
-// end.
+// Reads the rest of a record, as many bytes as its head says at a place, and has its line printed; false at the end.
 fn counted<F: Fn(&[u8], &[u8]) -> io::Result<bool>>(
     input: &mut impl Read,
-    head: &mut [u8],
+    head: &[u8],
     at: usize,
     line: F,
 ) -> io::Result<bool>
     requires { F.IsAlwaysCallable line }
 {
-    if !fill(input, head)? {
-        return Ok(false);
-    }
     let n = u32_at(head, at) as usize;
     let mut space = [0; 8192];
     if !fill_front(input, &mut space, n)? {
@@ -40,25 +36,49 @@ fn record(input: &mut impl Read, out: &impl Print) -> io::Result<bool> {
         return Ok(false);
     }
     match kind[0] {
-        1 => counted(input, &mut [0; 4], 0, |_, s| digests::line(out, s)),
-        2 => counted(
-            input,
-            &mut [0; 95],
-            91,
-            |head, key| derivations::line(out, head, key),
-        ),
-        3 => counted(
-            input,
-            &mut [0; 8],
-            4,
-            |head, key| set_ups::line(out, head, key),
-        ),
-        4 => counted(input, &mut [0; 4], 0, |_, body| nonces::line(out, body)),
+        1 => {
+            let mut head = [0; 4];
+            if !fill(input, &mut head)? {
+                return Ok(false);
+            }
+            counted(input, &head, 0, |_, s| digests::line(out, s))
+        }
+        2 => {
+            let mut head = [0; 95];
+            if !fill(input, &mut head)? || !derivations::has_room(&head) {
+                return Ok(false);
+            }
+            counted(
+                input,
+                &head,
+                91,
+                |head, key| derivations::line(out, head, key),
+            )
+        }
+        3 => {
+            let mut head = [0; 8];
+            if !fill(input, &mut head)? {
+                return Ok(false);
+            }
+            counted(input, &head, 4, |head, key| set_ups::line(out, head, key))
+        }
+        4 => {
+            let mut head = [0; 4];
+            if !fill(input, &mut head)? {
+                return Ok(false);
+            }
+            counted(input, &head, 0, |_, body| nonces::line(out, body))
+        }
         _ => Ok(false),
     }
 }
 
 fn main(rt: HostRuntime) -> io::Result<()> {
     let mut input = rt.reader();
-    each_record(|| record(&mut input, &rt))
+    for _ in 0..u64::MAX {
+        if !record(&mut input, &rt)? {
+            break;
+        }
+    }
+    Ok(())
 }

@@ -8,7 +8,7 @@ mod flushing;
 mod receiving;
 mod sending;
 
-use check_records::{each_record, fill, fill_front, front, refused};
+use check_records::{fill, fill_front, front, refused};
 use link_state::{Link, Settings};
 use std::io::{self, Read};
 
@@ -114,5 +114,10 @@ fn main(rt: HostRuntime) -> io::Result<()> {
     let Ok(mut link) = link_state::set_up(set) else {
         return Ok(());
     };
-    each_record(|| record(&mut input, &rt, &mut link, &mut space))
+    for _ in 0..u64::MAX {
+        if !record(&mut input, &rt, &mut link, &mut space)? {
+            break;
+        }
+    }
+    Ok(())
 }

@@ -83,6 +83,21 @@ fn call(link: &mut Link, buffer: &mut [u8], head: &[u8], payload: &[u8]) -> Resu
     send(link, buffer, payload, what_of(head), drawn, moment)
 }
 
+// The call on a buffer of as many bytes as head tells, and its line. A function of its own: in one that may return before
+// it has the buffer, the buffer would be cleared first.
+fn call_and_print(
+    out: &impl Print,
+    link: &mut Link,
+    head: &[u8],
+    payload: &[u8],
+) -> io::Result<()> {
+    let mut space = [0xa5u8; 81920];
+    let buffer: &mut [u8] = &mut space;
+    let room = (wire::u32_at(head, 53) as usize).min(buffer.len());
+    let answer = call(link, &mut buffer[..room], head, payload);
+    print_answer(out, "sent", answer, front(buffer, room))
+}
+
 // Kind (1), time (4), random (16), own NetPID (12), peer's (12), Ping's ID (8), room (4), the fields of a message (28), n (4),
 // n bytes.
 pub(crate) fn send_record(
@@ -99,10 +114,6 @@ pub(crate) fn send_record(
     if !fill_front(input, lent, n)? {
         return Ok(false);
     }
-    let mut space = [0xa5u8; 81920];
-    let buffer: &mut [u8] = &mut space;
-    let room = (wire::u32_at(&head, 53) as usize).min(buffer.len());
-    let answer = call(link, &mut buffer[..room], &head, front(lent, n));
-    print_answer(out, "sent", answer, front(buffer, room))?;
+    call_and_print(out, link, &head, front(lent, n))?;
     Ok(true)
 }

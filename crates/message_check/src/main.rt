@@ -5,7 +5,7 @@
 
 mod print;
 
-use check_records::{each_record, fill, fill_front, front, refused};
+use check_records::{fill, fill_front, front};
 use header::Side;
 use invoke::Invoke;
 use message::Message;
@@ -44,8 +44,7 @@ fn print_reply(out: &impl Print, r: Reply) -> io::Result<()> {
 }
 
 fn refused_line(out: &impl Print, refusal: Refusal) -> io::Result<()> {
-    refused(out, refusal)?;
-    println!(out)
+    println!(out; "no {}", u8::from(refusal))
 }
 
 fn print_read(out: &impl Print, read: Result<Message, Refusal>) -> io::Result<()> {
@@ -138,5 +137,10 @@ fn main(rt: HostRuntime) -> io::Result<()> {
     let mut input = rt.reader();
     let mut space = [0u8; MOST];
     let body: &mut [u8] = &mut space;
-    each_record(|| record(&mut input, &rt, body))
+    for _ in 0..u64::MAX {
+        if !record(&mut input, &rt, body)? {
+            break;
+        }
+    }
+    Ok(())
 }

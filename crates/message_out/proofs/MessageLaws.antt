@@ -11,9 +11,9 @@ use Rattle.link_state.specs.declared.Link.{Link}
 use Rattle.packet_out.specs.Size.{size_of, fits_of}
 use Rattle.packet_out.specs.Packet.{sealed_of}
 use Rattle.packet_out.proofs.SealLaws.{sealed-over}
-use Rattle.send_rules.specs.Control.{check_send, buffer_by}
+use Rattle.send_rules.specs.Control.{check_send, step_by, buffer_by}
 use Rattle.message_out.specs.Outgoing.{kind_of, body_of, wrong_way, number_zero, payload_misread}
-use Rattle.message_out.specs.MessageStep.{message_answer, message_buffer}
+use Rattle.message_out.specs.MessageStep.{message_answer, message_step, message_buffer}
 use Rattle.message_out.specs.Parts.{check_early, placed_answer, placed_in}
 use Rattle.message_out.specs.declared.Outgoing as O
 use Rattle.message_out.proofs.PlaceLaws.{told}
@@ -55,6 +55,19 @@ module _ (l : Link) (w : O.Outgoing) (p b : List ℕ) where
       in-halves (check_send l (kind_of w) false) (wrong_way l.set.server w) _
       ∙ ap (result_and (check_early l w)) (by-sent l (number_zero w) (payload_misread w p) (ltb 16777199 len) (ltb (length b) (size_of l len)) len)
 
+  -- the answer where none of the early rows applies
+  pub answered : {a : Result ℕ Refusal} → check_early l w ≡ Ok tt → a ≡ placed_answer l w p (length b)
+      → message_answer l w p (length b) ≡ sent_by l a
+  answered h e = (rw h at halves) ∙ ap (sent_by l) (sym e)
+
+  -- the step where one does
+  pub early-step : {k : Refusal} → check_early l w ≡ Err k
+      → (record { link = l; answer = Err k } ≡ message_step l w p (length b)) × (b ≡ message_buffer l w p b)
+  unfolding message_step message_buffer
+  early-step {k} e =
+      let t : message_answer l w p (length b) ≡ Err k = rw e at halves in
+      (sym (ap (step_by l (kind_of w) 0) t), sym (ap (buffer_by l (kind_of w) (body_of w p) b) t))
+
   -- 20, 22, 5, 19
   pub refused-early : {r : Result ℕ Refusal} {k : Refusal} → r ≡ Err k → check_early l w ≡ Err k
       → (r ≡ message_answer l w p (length b)) × (b ≡ message_buffer l w p b)
@@ -69,7 +82,7 @@ module _ (l : Link) (w : O.Outgoing) (p b : List ℕ) where
       → (r ≡ message_answer l w p (length b)) × (b1 ≡ message_buffer l w p b)
   unfolding message_buffer
   refused-body {a} {r} {k} g e h i f =
-      let t : message_answer l w p (length b) ≡ Err k = (rw e at halves) ∙ ap (sent_by l) (sym h ∙ f) in
+      let t : message_answer l w p (length b) ≡ Err k = answered e h ∙ ap (sent_by l) f in
       (g ∙ sym t, i ∙ ap (λ (x : Result ℕ Refusal). placed_in x b (body_of w p)) f ∙ sym (ap (buffer_by l (kind_of w) (body_of w p) b) t))
 
   -- the body is there, and is sealed
@@ -80,7 +93,7 @@ module _ (l : Link) (w : O.Outgoing) (p b : List ℕ) where
   unfolding message_buffer
   sealed {a} {len} {kind} {size} {b1} e h i f n q s =
       let g = told l w p (length b) h f in
-      let t : message_answer l w p (length b) ≡ Ok size = (rw e at halves) ∙ (ap (sent_by l) (sym h ∙ f) ∙ ap (λ (k : ℕ). Ok k) (sym q)) in
+      let t : message_answer l w p (length b) ≡ Ok size = answered e h ∙ (ap (sent_by l) f ∙ ap (λ (k : ℕ). Ok k) (sym q)) in
       let there : b1 ≡ sets b 12 (body_of w p) = i ∙ ap (λ (x : Result ℕ Refusal). placed_in x b (body_of w p)) f in
       let s' = s ∙ ap (λ (k : ℕ). sealed_of l k len b1) n in (
         sym t,

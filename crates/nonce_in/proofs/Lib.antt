@@ -1,2 +1,3 @@
--- Laws of crate nonce_in.
+-- Laws of crate nonce_in, and those of clocks.
 pub mod FieldLaws
+pub mod ClockLaws

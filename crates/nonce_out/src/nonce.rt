@@ -8,7 +8,7 @@ use crate::Drawn;
 use link_cipher::{encryption, key_id, offers_or_takes};
 use link_state::{Link, Moment, OUR_VERSION};
 use packet::NONCE;
-use send_rules::{Step, control_step};
+use send_rules::{ControlBody, Step, control_step};
 use store::{put_u8, put_u16, put_u32};
 use store_bytes::copy;
 
@@ -58,12 +58,34 @@ fn put_nonce(buf: &mut [u8], link: Link, drawn: Drawn, moment: Moment)
     copy(buf, 40, &point(link, drawn.point));
 }
 
+#[derive(Clone, Copy)]
+struct Nonce {
+    link: Link,
+    drawn: Drawn,
+    moment: Moment,
+}
+
+impl ControlBody for Nonce {
+    ghost body = { λ what. our_nonce what.link what.drawn what.moment };
+
+    fn size(&self) -> usize {
+        60
+    }
+
+    fn put(&self, buf: &mut [u8]) {
+        put_nonce(buf, self.link, self.drawn, self.moment);
+    }
+}
+
 // Our Nonce, with the caller's time, random bytes and point.
 pub fn nonce_step(link: Link, buf: &mut [u8], drawn: Drawn, moment: Moment) -> Step
     ensures { (result ≡ nonce_step link drawn moment (length buf.old))
         × (buf.new ≡ nonce_buffer link drawn moment buf.old) }
 {
-    control_step(link, buf, NONCE, false, 0, 60, |b| {
-        put_nonce(b, link, drawn, moment);
-    })
+    let what = Nonce {
+        link,
+        drawn,
+        moment,
+    };
+    control_step(link, buf, NONCE, false, 0, &what)
 }

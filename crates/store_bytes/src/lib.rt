@@ -5,10 +5,20 @@
 // are stored by the crates `store` and `store_signed`.
 #![tactic(auto)]
 
-ghost use Rattle.std.specs.Prelude.{◌≡◌, length, replicate};
+ghost use Rattle.std.specs.Prelude.{◌≡◌, ◌+◌, ◌≤◌, length, replicate, take};
 ghost use Rattle.std.proofs.lemmas.List.Edits.{sets};
 
 use wire::left;
+
+// The first n bytes of t from at on. The library's copy would have C's memmove called.
+fn put(d: &mut [u8], at: usize, t: &[u8], n: usize)
+    requires { (at + n ≤ length d.old) × (n ≤ length t.now) }
+    ensures { d.new ≡ sets d.old at (take n t.now) }
+{
+    for i in 0..n {
+        d[at + i] = t[i];
+    }
+}
 
 // All of t from at on, or as much of it as d has room for. Where all fits the length is that of t, which the compiler
 // often knows.
@@ -18,9 +28,9 @@ pub fn copy(d: &mut [u8], at: usize, t: &[u8])
     let n = t.len().min(left(d, at));
     if n > 0 {
         if n == t.len() {
-            d[at..at + t.len()].copy_from_slice(t);
+            put(d, at, t, t.len());
         } else {
-            d[at..at + n].copy_from_slice(&t[..n]);
+            put(d, at, t, n);
         }
     }
 }

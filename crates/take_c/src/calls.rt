@@ -46,7 +46,7 @@ fn cancel_fields(a: Result<PublisherEnd, Refusal>) -> RelayCancelled
 
 // Reply (publisher, number): hands back link and front number, and frees the request.
 #[unsafe(no_mangle)]
-pub extern "C" fn relay_reply_lent(
+pub extern "C" fn relay_table_reply(
     table: &mut Table,
     publisher: u8,
     number: PublisherNumber,
@@ -60,7 +60,7 @@ pub extern "C" fn relay_reply_lent(
 
 // Cancel (link, number): hands back publisher and publisher number, and frees the request.
 #[unsafe(no_mangle)]
-pub extern "C" fn relay_cancel_lent(
+pub extern "C" fn relay_table_cancel(
     table: &mut Table,
     link: u8,
     number: FrontNumber,

@@ -2,7 +2,7 @@
 // bytes. A line has the five numbers read there, and the n bytes after each of six stores.
 #![tactic(auto)]
 
-use check_records::{each_record, fill};
+use check_records::fill;
 use std::io::{self, Read};
 
 fn print_bytes(out: &impl Print, s: &[u8]) -> io::Result<()> {
@@ -88,5 +88,10 @@ fn record(input: &mut impl Read, out: &impl Print) -> io::Result<bool> {
 
 fn main(rt: HostRuntime) -> io::Result<()> {
     let mut input = rt.reader();
-    each_record(|| record(&mut input, &rt))
+    for _ in 0..u64::MAX {
+        if !record(&mut input, &rt)? {
+            break;
+        }
+    }
+    Ok(())
 }

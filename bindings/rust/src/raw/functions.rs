@@ -45,8 +45,8 @@ extern "C" {
     pub fn relay_encipher(buf: *mut u8, n: usize, keys: RoundKeys, vector: Vector) -> Chained;
     pub fn relay_decipher(buf: *mut u8, n: usize, keys: RoundKeys, vector: Vector) -> Chained;
 
-    pub fn relay_fresh_lent(table: *mut Table, first: PublisherNumber) -> u8;
-    pub fn relay_ask_lent(
+    pub fn relay_table_fresh(table: *mut Table, first: PublisherNumber) -> u8;
+    pub fn relay_table_ask(
         table: *mut Table,
         link: u8,
         number: FrontNumber,
@@ -54,16 +54,75 @@ extern "C" {
         time: u64,
         timeout: u32,
     ) -> Asked;
-    pub fn relay_reply_lent(table: *mut Table, publisher: u8, number: PublisherNumber) -> Replied;
-    pub fn relay_cancel_lent(table: *mut Table, link: u8, number: FrontNumber) -> Cancelled;
-    pub fn relay_gone_lent(
+    pub fn relay_table_reply(table: *mut Table, publisher: u8, number: PublisherNumber) -> Replied;
+    pub fn relay_table_cancel(table: *mut Table, link: u8, number: FrontNumber) -> Cancelled;
+    pub fn relay_table_gone(
         table: *mut Table,
         publisher: bool,
         number: u8,
         out: *mut i64,
         n: usize,
     ) -> Dropped;
-    pub fn relay_run_out_lent(table: *mut Table, time: u64, out: *mut i64, n: usize) -> Dropped;
+    pub fn relay_table_run_out(table: *mut Table, time: u64, out: *mut i64, n: usize) -> Dropped;
+}
+
+// The same for members that lie apart: each call copies them in and out.
+#[cfg(feature = "raw")]
+extern "C" {
+    pub fn relay_fresh_lent(
+        masks: *mut [u64; 9],
+        numbers: *mut [i64; 136],
+        times: *mut [u64; 65],
+        first: PublisherNumber,
+    ) -> u8;
+    pub fn relay_ask_lent(
+        masks: *mut [u64; 9],
+        numbers: *mut [i64; 136],
+        places: *mut [u8; 128],
+        order: *mut [u8; 64],
+        times: *mut [u64; 65],
+        link: u8,
+        number: FrontNumber,
+        publisher: u8,
+        time: u64,
+        timeout: u32,
+    ) -> Asked;
+    pub fn relay_reply_lent(
+        masks: *mut [u64; 9],
+        numbers: *const [i64; 136],
+        places: *const [u8; 128],
+        order: *mut [u8; 64],
+        publisher: u8,
+        number: PublisherNumber,
+    ) -> Replied;
+    pub fn relay_cancel_lent(
+        masks: *mut [u64; 9],
+        numbers: *const [i64; 136],
+        places: *const [u8; 128],
+        order: *mut [u8; 64],
+        link: u8,
+        number: FrontNumber,
+    ) -> Cancelled;
+    pub fn relay_gone_lent(
+        masks: *mut [u64; 9],
+        numbers: *const [i64; 136],
+        places: *const [u8; 128],
+        order: *mut [u8; 64],
+        publisher: bool,
+        number: u8,
+        out: *mut i64,
+        n: usize,
+    ) -> Dropped;
+    pub fn relay_run_out_lent(
+        masks: *mut [u64; 9],
+        numbers: *const [i64; 136],
+        places: *const [u8; 128],
+        order: *mut [u8; 64],
+        times: *mut [u64; 65],
+        time: u64,
+        out: *mut i64,
+        n: usize,
+    ) -> Dropped;
 }
 
 // A table's calls: they lend it where it stands and copy none of it, as the
@@ -71,7 +130,7 @@ extern "C" {
 
 pub fn relay_fresh(t: &mut Table, first: PublisherNumber) -> u8 {
     // SAFETY: the table is borrowed.
-    unsafe { relay_fresh_lent(t, first) }
+    unsafe { relay_table_fresh(t, first) }
 }
 
 pub fn relay_ask(t: &mut Table, link: u8, number: FrontNumber, publisher: u8) -> Asked {
@@ -87,25 +146,25 @@ pub fn relay_ask_by(
     timeout: u32,
 ) -> Asked {
     // SAFETY: the table is borrowed.
-    unsafe { relay_ask_lent(t, link, number, publisher, time, timeout) }
+    unsafe { relay_table_ask(t, link, number, publisher, time, timeout) }
 }
 
 pub fn relay_reply(t: &mut Table, publisher: u8, number: PublisherNumber) -> Replied {
     // SAFETY: the table is borrowed.
-    unsafe { relay_reply_lent(t, publisher, number) }
+    unsafe { relay_table_reply(t, publisher, number) }
 }
 
 pub fn relay_cancel(t: &mut Table, link: u8, number: FrontNumber) -> Cancelled {
     // SAFETY: the table is borrowed.
-    unsafe { relay_cancel_lent(t, link, number) }
+    unsafe { relay_table_cancel(t, link, number) }
 }
 
 pub fn relay_gone(t: &mut Table, publisher: bool, number: u8, out: &mut [i64]) -> Dropped {
     // SAFETY: the table is borrowed; the pointer and length are a slice's.
-    unsafe { relay_gone_lent(t, publisher, number, out.as_mut_ptr(), out.len()) }
+    unsafe { relay_table_gone(t, publisher, number, out.as_mut_ptr(), out.len()) }
 }
 
 pub fn relay_run_out(t: &mut Table, time: u64, out: &mut [i64]) -> Dropped {
     // SAFETY: the table is borrowed; the pointer and length are a slice's.
-    unsafe { relay_run_out_lent(t, time, out.as_mut_ptr(), out.len()) }
+    unsafe { relay_table_run_out(t, time, out.as_mut_ptr(), out.len()) }
 }

@@ -2,8 +2,7 @@
 use mathlib.Core.Path.{ap, ◌∙◌}
 use Prim.Native.Nat.{ℕ, ◌/◌, ◌%◌}
 use mathlib.Core.List.{List}
-use Rattle.aes.specs.Words.{bytes4}
-use Rattle.aes.proofs.Words.{turn_list}
+use Rattle.aes.specs.Words.{bytes4, turn_list}
 use Rattle.aes_back_keys.proofs.Laws.{column0}
 use Rattle.aes_back_keys.proofs.rounds.unmix4.Goals as goal
 

@@ -13,8 +13,8 @@ pub loop-i-preserved : goal.loop-i-preserved
 loop-i-preserved c =
     let l = c.loop-i in
     let long : length l.w ≡ 240 = omega (arith, c.requires) in
-    word_next (take 32 c.args.w.now) l.w _ l.i c.word_at-p.result c.temp-x.result c.word_at-y.result (omega arith)
-    (omega arith) long l.invariant c.word_at-p.ensures c.temp-x.ensures c.word_at-y.ensures c.put_u32.ensures
+    word_next (take 32 c.args.w.now) l.w _ l.i c.key4-p.result c.temp-x.result c.key4-y.result (omega arith)
+    (omega arith) long l.invariant c.key4-p.ensures c.temp-x.ensures c.key4-y.ensures c.put_u32.ensures
 
 pub returns : goal.returns
 unfolding keys

@@ -2,8 +2,7 @@
 use Rattle.std.proofs.Common.{◌≡◌, ℕ, ◌+◌, sym, ap, ◌∙◌, subst, add-one}
 use Rattle.aes.specs.declared.Quad.{Quad}
 use Rattle.aes.specs.Aes.{add}
-use Rattle.aes.specs.Words.{bytes4}
-use Rattle.aes.proofs.Quads.{slant}
+use Rattle.aes.specs.Words.{bytes4, slant}
 use Rattle.aes_loops.specs.Rounds.{Done, column_at, spun}
 use Rattle.aes_loops.proofs.Turns.{done_next}
 use Rattle.aes_loops.proofs.block.round.Goals as goal

@@ -1,16 +1,12 @@
 -- `aes_loops::chain::chained` meets its contract. Assumes nothing.
-use Rattle.std.proofs.Common.{◌/◌, List, ℕ, length, replicate, sym, ap, ◌∙◌, arith}
-use lib.Seq.{take_all}
-use Rattle.aes.specs.Words.{bytes_of}
-use Rattle.aes.proofs.Quads.{sixteen, array-law}
+use Rattle.std.proofs.Common.{◌/◌, List, ℕ, length, ap, ◌∙◌}
 use Rattle.aes_loops.specs.Chain.{vector_of}
 use Rattle.aes_loops.proofs.chain.chained.Goals as goal
 
 pub returns-clause-vector : goal.returns-clause-vector
 returns-clause-vector g c =
     let d = g.D.Direction in
-    let q = c.blocks-q.result in
     let s = c.args.buf.now in
-    array-law (replicate 16 0) (bytes_of q) (sym (sixteen q)) c.store.ensures ∙ c.blocks-q.ensures.vector
+    c.store.ensures ∙ c.blocks-q.ensures.vector
     ∙ ap (λ (v : List ℕ). vector_of (d.block_makes c.args.k.now) d.enters d.leaves d.carries v s (length s / 16))
-    (c.load.ensures ∙ take_all 16 c.args.v (omega (arith, c.well_formed.0)))
+    c.load.ensures

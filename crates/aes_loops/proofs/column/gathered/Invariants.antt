@@ -1,7 +1,6 @@
 -- `aes_loops::column::gathered` meets its contract. Assumes nothing.
 use Rattle.std.proofs.Common.{◌≡◌}
-use Rattle.aes.specs.Words.{bytes4}
-use Rattle.aes.proofs.Quads.{slant}
+use Rattle.aes.specs.Words.{bytes4, slant}
 use Rattle.aes_loops.specs.Rows.{sums}
 use Rattle.aes_loops.proofs.Turns.{Ahead}
 use Rattle.aes_loops.proofs.column.gathered.Given as goal

@@ -1,5 +1,5 @@
 -- `aes_loops::column::placed` meets its contract. Assumes nothing.
-use Rattle.std.proofs.Common.{◌≡◌, arith}
+use Rattle.std.proofs.Common.{◌≡◌, ◌%◌, arith}
 use Rattle.aes_loops.proofs.Turns.{placed-0, placed-1, placed-2, placed-3}
 use Rattle.aes_loops.proofs.column.placed.Goals as goal
 
@@ -14,5 +14,5 @@ returns-in-2 c = rw (c.from-x.ensures, c.in-2.is) (placed-2 c.ranges.b.fits)
 
 pub returns-in_default : goal.returns-in_default
 returns-in_default c =
-    let e : c.args.r ≡ 3 = omega arith in
+    let e : c.args.r % 4 ≡ 3 = omega arith in
     rw (c.from-x.ensures, e) (placed-3 c.ranges.b.fits)

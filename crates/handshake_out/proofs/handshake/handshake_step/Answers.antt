@@ -1,9 +1,7 @@
 -- `handshake_out::handshake::handshake_step` meets its contract. Assumes nothing.
-use Rattle.std.proofs.Common.{rules}
 use Rattle.handshake_out.specs.Handshake.{handshake_step, handshake_buffer}
-use Rattle.handshake_out.proofs.BodyLaws.{length-handshake}
 use Rattle.handshake_out.proofs.handshake.handshake_step.Goals as goal
 
 pub returns : goal.returns
 unfolding handshake_step handshake_buffer
-returns c = c.control_step.ensures _ (length-handshake _ _ _) (λ b b' w. search rules)
+returns c = rw (← c.flags.ensures) c.control_step.ensures

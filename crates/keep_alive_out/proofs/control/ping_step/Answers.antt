@@ -1,9 +1,7 @@
 -- `keep_alive_out::control::ping_step` meets its contract. Assumes nothing.
-use Rattle.std.proofs.Common.{rules}
-use Rattle.wire.proofs.ByteLaws.{length-bytes}
 use Rattle.keep_alive_out.specs.KeepAlive.{ping_step, ping_buffer}
 use Rattle.keep_alive_out.proofs.control.ping_step.Goals as goal
 
 pub returns : goal.returns
 unfolding ping_step ping_buffer
-returns c = c.control_step.ensures _ (length-bytes 8 _) (λ b b' w. search rules)
+returns c = c.control_step.ensures

@@ -1,9 +1,7 @@
 -- `keep_alive_out::control::pong_step` meets its contract. Assumes nothing.
-use Rattle.std.proofs.Common.{rules}
-use Rattle.wire.proofs.ByteLaws.{length-bytes}
 use Rattle.keep_alive_out.specs.KeepAlive.{pong_step, pong_buffer}
 use Rattle.keep_alive_out.proofs.control.pong_step.Goals as goal
 
 pub returns : goal.returns
 unfolding pong_step pong_buffer
-returns c = c.control_step.ensures _ (length-bytes 8 _) (λ b b' w. search rules)
+returns c = c.control_step.ensures

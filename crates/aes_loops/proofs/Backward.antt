@@ -4,8 +4,8 @@ use Rattle.std.proofs.Common.{ap, ap₂, ◌∙◌, arith}
 use Rattle.aes.specs.declared.Quad.{Quad}
 use Rattle.aes.specs.Aes.{add, unsub_bytes, placed, unshift_rows, columns, unmix_columns, round_key}
 use Rattle.aes.specs.Back.{back_rounds, back_cipher}
-use Rattle.aes.specs.Words.{bytes4, bytes_of}
-use Rattle.aes.proofs.Quads.{join4, slant}
+use Rattle.aes.specs.Words.{bytes4, bytes_of, slant}
+use Rattle.aes.proofs.Quads.{join4}
 use Rattle.aes_loops.specs.Rounds.{Rounds, facing, backward, spun, rounds_of, ciphered}
 use Rattle.aes_loops.proofs.Turns.{keyed}
 

@@ -1,6 +1,6 @@
--- `handshake_out::handshake::put_handshake` meets its contract. Assumes nothing.
+-- `handshake_out::handshake::Handshake` stores its bytes. Assumes nothing.
 use Rattle.handshake_out.proofs.BodyLaws.{handshake-stored}
-use Rattle.handshake_out.proofs.handshake.put_handshake.Goals as goal
+use Rattle.handshake_out.proofs.handshake.HandshakeControlBody.put.Goals as goal
 
 pub returns : goal.returns
 returns c =

@@ -3,8 +3,8 @@ use Rattle.std.specs.Prelude.{◌≡◌, ℕ, zero, suc, ◌*◌, List, refl}
 use Rattle.std.proofs.Common.{ap, ◌∙◌}
 use Rattle.aes.specs.declared.Quad.{Quad}
 use Rattle.aes.specs.Aes.{add, sub_bytes, placed, shift_rows, columns, mix_columns, round_key, rounds, cipher}
-use Rattle.aes.specs.Words.{bytes4, bytes_of}
-use Rattle.aes.proofs.Quads.{join4, slant}
+use Rattle.aes.specs.Words.{bytes4, bytes_of, slant}
+use Rattle.aes.proofs.Quads.{join4}
 use Rattle.aes_loops.specs.Rounds.{Rounds, onward, spun, rounds_of, ciphered}
 use Rattle.aes_loops.proofs.Turns.{keyed}
 

@@ -1,0 +1,2 @@
+-- Laws of crate drops_c.
+pub mod TimesLaws

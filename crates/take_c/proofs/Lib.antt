@@ -1,0 +1,2 @@
+-- Laws of crate take_c.
+pub mod TimesLaws
