@@ -10,13 +10,13 @@ ghost use Rattle.aes_loops.proofs.Backward.{mixed-round, unmixed-round, cipher-i
 
 use aes::Quad;
 use aes_back_columns::back_column_of;
-use aes_loops::{Direction, Look, both, placed, turned};
+use aes_loops::{TotalDirection, TotalLook, both, placed, turned};
 use aes_unsub::unsub;
 
 // What a byte is the substitute of, times the first column of the inverse matrix.
 pub(crate) struct Mixed;
 
-impl Look for Mixed {
+impl TotalLook for Mixed {
     ghost adds = { λ x. unproducts (unsbox x) };
 
     ghost makes = { λ l. unmix_columns (unsub_bytes l) };
@@ -31,7 +31,7 @@ impl Look for Mixed {
 // What a byte is the substitute of: the last round has no matrix step.
 pub(crate) struct Unmixed;
 
-impl Look for Unmixed {
+impl TotalLook for Unmixed {
     ghost adds = { λ x. unsbox x ∷ 0 ∷ 0 ∷ 0 ∷ [] };
 
     ghost makes = { unsub_bytes };
@@ -45,7 +45,7 @@ impl Look for Unmixed {
 
 pub(crate) struct Deciphering;
 
-impl Direction for Deciphering {
+impl TotalDirection for Deciphering {
     type Inner = Mixed;
 
     type Last = Unmixed;

@@ -9,13 +9,13 @@ ghost use Rattle.aes_loops.proofs.Forth.{mixed-round, unmixed-round, cipher-is};
 
 use aes::Quad;
 use aes_columns::column_of;
-use aes_loops::{Direction, Look, both, placed, turned};
+use aes_loops::{TotalDirection, TotalLook, both, placed, turned};
 use aes_sub::sub;
 
 // A byte's substitute, times the first column of the matrix.
 pub(crate) struct Mixed;
 
-impl Look for Mixed {
+impl TotalLook for Mixed {
     ghost adds = { products };
 
     ghost makes = { λ l. mix_columns (sub_bytes l) };
@@ -30,7 +30,7 @@ impl Look for Mixed {
 // A byte's substitute: the last round has no matrix step.
 pub(crate) struct Unmixed;
 
-impl Look for Unmixed {
+impl TotalLook for Unmixed {
     ghost adds = { λ x. sbox x ∷ 0 ∷ 0 ∷ 0 ∷ [] };
 
     ghost makes = { sub_bytes };
@@ -44,7 +44,7 @@ impl Look for Unmixed {
 
 pub(crate) struct Enciphering;
 
-impl Direction for Enciphering {
+impl TotalDirection for Enciphering {
     type Inner = Mixed;
 
     type Last = Unmixed;

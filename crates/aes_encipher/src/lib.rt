@@ -5,6 +5,8 @@
 // look-ups of `aes_columns` and, in the last round, of `aes_sub`.
 #![tactic(auto)]
 
+#[cfg(test)]
+mod below;
 mod chain;
 mod direction;
 

@@ -7,11 +7,11 @@ ghost use Rattle.aes_loops.proofs.Turns.{unmixed-sums};
 
 use aes::Quad;
 use aes_key_sub::key_sub;
-use aes_loops::{Look, gathered, placed};
+use aes_loops::{TotalLook, gathered, placed};
 
 struct Substitute;
 
-impl Look for Substitute {
+impl TotalLook for Substitute {
     ghost adds = { λ x. sbox x ∷ 0 ∷ 0 ∷ 0 ∷ [] };
 
     ghost makes = { sub_bytes };

@@ -3,8 +3,8 @@ ghost use Rattle.std.specs.Prelude.{◌≡◌, ◌+◌, ◌≤◌, length};
 ghost use Rattle.aes.specs.Words.{bytes_of};
 ghost use Rattle.aes_loops.specs.Rounds.{Done, column_at};
 
-use super::column::{Look, gathered};
-use super::direction::Direction;
+use super::column::gathered;
+use super::total::{TotalDirection, TotalLook};
 use super::words::{both, load, word_at};
 use aes::Quad;
 
@@ -21,7 +21,7 @@ fn pushed(o: Quad, x: u32) -> Quad
 }
 
 // A round with the look-ups of L, with the round key at an offset of k.
-fn round<D: Direction, L: Look>(k: &[u8], at: usize, s: Quad) -> Quad
+fn round<D: TotalDirection, L: TotalLook>(k: &[u8], at: usize, s: Quad) -> Quad
     requires { at + 16 ≤ length k.now }
     ensures { Done (column_at L.makes D.next_rows k.now at (D.first_rows s)) 4 result }
 {
@@ -41,7 +41,7 @@ fn round<D: Direction, L: Look>(k: &[u8], at: usize, s: Quad) -> Quad
 }
 
 // One block.
-pub(crate) fn block<D: Direction>(k: &[u8; 240], s: Quad) -> Quad
+pub(crate) fn block<D: TotalDirection>(k: &[u8; 240], s: Quad) -> Quad
     ensures { bytes_of result ≡ D.block_makes k.now (bytes_of s) }
 {
     let at = D::place(0);

@@ -4,11 +4,11 @@ ghost use Rattle.aes.specs.Words.{bytes_of};
 ghost use Rattle.aes_loops.specs.Chain.{vector_of, blocks_of};
 
 use super::block::block;
-use super::direction::Direction;
+use super::total::TotalDirection;
 use super::words::{load, store};
 use aes::Quad;
 
-fn blocks<D: Direction>(k: &[u8; 240], v: Quad, buf: &mut [u8]) -> Quad
+fn blocks<D: TotalDirection>(k: &[u8; 240], v: Quad, buf: &mut [u8]) -> Quad
     ensures vector { bytes_of result ≡ vector_of (D.block_makes k.now) D.enters D.leaves D.carries (bytes_of v) buf.old
         (length buf.old / 16) }
     ensures buffer { buf.new ≡ blocks_of (D.block_makes k.now) D.enters D.leaves D.carries (bytes_of v) buf.old
@@ -31,7 +31,7 @@ fn blocks<D: Direction>(k: &[u8; 240], v: Quad, buf: &mut [u8]) -> Quad
 }
 
 // The whole blocks of buf, ciphered in place under the round keys k from the vector v; the vector for the next call.
-pub fn chained<D: Direction>(k: &[u8; 240], v: [u8; 16], buf: &mut [u8]) -> [u8; 16]
+pub fn chained<D: TotalDirection>(k: &[u8; 240], v: [u8; 16], buf: &mut [u8]) -> [u8; 16]
     ensures vector { result ≡ vector_of (D.block_makes k.now) D.enters D.leaves D.carries v buf.old
         (length buf.old / 16) }
     ensures buffer { buf.new ≡ blocks_of (D.block_makes k.now) D.enters D.leaves D.carries v buf.old

@@ -1,12 +1,13 @@
 // One column of a round, row by row.
-ghost use Rattle.std.specs.Prelude.{◌≡◌, ℕ, List, [], ◌∷◌, ◌%◌};
+ghost use Rattle.std.specs.Prelude.{◌≡◌, ℕ, List, [], ◌∷◌, ◌%◌, ◌<◌};
 ghost use Rattle.aes.specs.Aes.{add};
 ghost use Rattle.aes.specs.Words.{bytes4, slant};
 ghost use Rattle.aes_loops.specs.Rows.{turns, ending, sums};
 
+use super::total::TotalLook;
 use aes::Quad;
 
-// A look-up: what each byte of a row adds to the column, turned by its place. Places are taken modulo 4.
+// A look-up: what each byte of a row adds to the column, turned by its place. It is called for places below 4 alone.
 pub trait Look {
     // What a byte adds in row 0.
     ghost adds: { ℕ → List ℕ };
@@ -15,7 +16,8 @@ pub trait Look {
     ghost makes: { List ℕ → List ℕ };
 
     fn look(x: u8, r: u32) -> u32
-        ensures { bytes4 result ≡ turns (r % 4) (adds x) };
+        requires { r < 4 }
+        ensures { bytes4 result ≡ turns r (adds x) };
 
     ghost sum: { (x y z w k : ℕ) → sums adds (x ∷ y ∷ z ∷ w ∷ []) (bytes4 k) 4
         ≡ add (makes (x ∷ y ∷ z ∷ w ∷ [])) (bytes4 k) };
@@ -49,7 +51,7 @@ pub fn placed(b: u8, r: u32) -> u32
 }
 
 // The word whose rows come from the words of s, one from each, with the round key's word k.
-pub fn gathered<L: Look>(s: Quad, k: u32) -> u32
+pub fn gathered<L: TotalLook>(s: Quad, k: u32) -> u32
     ensures { bytes4 result ≡ add (L.makes (slant s.a s.b s.c s.d)) (bytes4 k) }
 {
     let mut q = s;

@@ -1,5 +1,5 @@
 // What enciphering and deciphering differ in.
-ghost use Rattle.std.specs.Prelude.{◌≡◌, ℕ, List, ◌+◌, ◌≤◌, min, length, take, drop};
+ghost use Rattle.std.specs.Prelude.{◌≡◌, ℕ, List, ◌+◌, ◌≤◌, ◌<◌, length, take, drop};
 ghost use Rattle.aes.specs.Words.{bytes_of};
 ghost use Rattle.aes.specs.declared.Quad.{Quad};
 ghost use Rattle.aes_loops.specs.Rounds.{Rounds, ciphered};
@@ -47,9 +47,10 @@ pub trait Direction {
     fn onward(q: Quad) -> Quad
         ensures { result ≡ next_rows q };
 
-    // Where the round key of round n is read: past the last round it is the last one.
+    // Where the round key of round n is read; called for rounds below 15 alone.
     fn place(n: usize) -> usize
-        ensures is { result ≡ place_of (min n 14) }
+        requires { n < 15 }
+        ensures is { result ≡ place_of n }
         ensures within { result + 16 ≤ 240 };
 
     fn entering(v: Quad, x: Quad) -> Quad

@@ -45,3 +45,47 @@ pub fn array<const N: usize>(s: &[u8]) -> [u8; N]
     copy(&mut a, 0, s);
     a
 }
+
+// Runs the step on one record after another, until it finds none or an error ends it.
+// Kept: it takes any closure, so it asks that the closure can be called. The programs have the loop themselves.
+pub fn each_record<F: FnMut() -> io::Result<bool>>(mut step: F) -> io::Result<()>
+    requires { F.IsAlwaysCallable step }
+    ensures { IfErr result (λ e. (before after : F) × F.step before (Err e) after) }
+{
+    for _ in 0..u64::MAX {
+        if !step()? {
+            break;
+        }
+    }
+    Ok(())
+}
+
+#[cfg(test)]
+mod tests {
+    use super::*;
+
+    #[test]
+    fn each_record_ends_at_none_or_an_error(rt: HostRuntime) {
+        let mut n = 0u8;
+        let ended = each_record(|| {
+            n = n.wrapping_add(1);
+            Ok(n < 3)
+        });
+        assert!(rt; ended.is_ok());
+        assert_eq!(rt; n, 3);
+        let mut n = 0u8;
+        let ended = each_record(|| {
+            n = n.wrapping_add(1);
+            if n < 2 {
+                Ok(true)
+            } else {
+                Err(io::Error::from(ErrorKind::InvalidData))
+            }
+        });
+        assert_eq!(rt; n, 2);
+        match ended {
+            Ok(()) => assert!(rt; false, "no error"),
+            Err(e) => assert!(rt; e.kind() == ErrorKind::InvalidData, "another error"),
+        }
+    }
+}

@@ -6,7 +6,7 @@ ghost use Rattle.handshake_out.specs.Handshake.{flags_of, pid_bytes, handshake_b
 use handshake_in::NetPid;
 use link_state::Link;
 use packet::HANDSHAKE;
-use send_rules::{ControlBody, Step, control_step};
+use send_rules::{ControlBody, Step, control_body_step};
 use store::{put_u16, put_u32};
 
 // 0x800 where we offer CRC-32C, or grant it.
@@ -63,5 +63,5 @@ pub fn handshake_step(link: Link, buf: &mut [u8], sender: NetPid, peer: NetPid) 
         sender,
         peer,
     };
-    control_step(link, buf, HANDSHAKE, false, 0, &what)
+    control_body_step(link, buf, HANDSHAKE, false, 0, &what)
 }

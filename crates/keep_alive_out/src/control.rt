@@ -5,7 +5,7 @@ ghost use Rattle.keep_alive_out.specs.KeepAlive.{ping_step, ping_buffer, pong_st
 
 use link_state::Link;
 use packet::{PING, PONG};
-use send_rules::{ControlBody, Step, control_step};
+use send_rules::{ControlBody, Step, control_body_step};
 use store::put_u64;
 
 #[derive(Clone, Copy)]
@@ -30,7 +30,7 @@ pub fn ping_step(link: Link, buf: &mut [u8], id: u64) -> Step
     ensures { (result ≡ ping_step link id (length buf.old))
         × (buf.new ≡ ping_buffer link id buf.old) }
 {
-    control_step(link, buf, PING, link.awaits, id, &Id { id })
+    control_body_step(link, buf, PING, link.awaits, id, &Id { id })
 }
 
 // Our Pong, with the ID of the Ping that it answers.
@@ -38,5 +38,5 @@ pub fn pong_step(link: Link, buf: &mut [u8]) -> Step
     ensures { (result ≡ pong_step link (length buf.old))
         × (buf.new ≡ pong_buffer link buf.old) }
 {
-    control_step(link, buf, PONG, !link.owes, 0, &Id { id: link.owed })
+    control_body_step(link, buf, PONG, !link.owes, 0, &Id { id: link.owed })
 }

@@ -8,7 +8,7 @@ use crate::Drawn;
 use link_cipher::{encryption, key_id, offers_or_takes};
 use link_state::{Link, Moment, OUR_VERSION};
 use packet::NONCE;
-use send_rules::{ControlBody, Step, control_step};
+use send_rules::{ControlBody, Step, control_body_step};
 use store::{put_u8, put_u16, put_u32};
 use store_bytes::copy;
 
@@ -87,5 +87,5 @@ pub fn nonce_step(link: Link, buf: &mut [u8], drawn: Drawn, moment: Moment) -> S
         drawn,
         moment,
     };
-    control_step(link, buf, NONCE, false, 0, &what)
+    control_body_step(link, buf, NONCE, false, 0, &what)
 }

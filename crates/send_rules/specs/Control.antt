@@ -1,6 +1,6 @@
 -- A packet that the link itself sends, whatever its body (document 01, "Send order: 20, 22, 5, 21, 19, 12, 15, 2, 16";
 -- 19, 12 and 15 are of messages). Assumes nothing.
-use Rattle.std.specs.Prelude.{ℕ, Bool, not, List, [], ◌∷◌, length, Result, Ok, Err, ⊤}
+use Rattle.std.specs.Prelude.{◌≡◌, ℕ, Bool, not, List, [], ◌∷◌, length, Result, Ok, Err, ⊤}
 use Rattle.std.specs.Result.{result_and}
 use Rattle.std.proofs.lemmas.List.Edits.{sets}
 use Rattle.wire.specs.Choice.{first}
@@ -8,7 +8,7 @@ use Rattle.link_state.specs.declared.Link.{Link}
 use Rattle.link_state.specs.Turn.{may_send}
 use Rattle.packet.specs.Allowed.{allowed_of}
 use Rattle.packet_out.specs.Size.{fits_of}
-use Rattle.packet_out.specs.Packet.{packet_of}
+use Rattle.packet_out.specs.Packet.{packet_of, sealed_of}
 use Rattle.refusal.specs.declared.Refusal.{Refusal}
 use Rattle.refusal.specs.declared.Refusal.TheVariants.{LinkClosed, NotOurTurn, TypeNotAllowed, PingOutOfTurn}
 use Rattle.send_rules.specs.Sent.{sent_of}
@@ -46,3 +46,12 @@ control_step l kind busy body id room = step_by l kind id (control_answer l kind
 -- what it leaves in the buffer b
 unfoldable pub control_buffer : Link → ℕ → Bool → List ℕ → List ℕ → List ℕ
 control_buffer l kind busy body b = buffer_by l kind body b (control_answer l kind busy (length body) (length b))
+
+-- what a writer of the body leaves of the buffer b: a refusal leaves all as it was, else it is what was written, sealed
+abbrev pub Leaves : (List ℕ → List ℕ → Type 0) → Link → ℕ → ℕ → List ℕ → List ℕ → Result ℕ Refusal → Type 0
+Leaves Writes l kind len b b' (Ok n) = (w : List ℕ) × Writes b w × (b' ≡ sealed_of l kind len w)
+Leaves Writes l kind len b b' (Err r) = b' ≡ b
+
+-- what writes a body into a buffer leaves this one there from byte 12 on
+abbrev pub Stores : (List ℕ → List ℕ → Type 0) → List ℕ → Type 0
+Stores Writes body = (b b' : List ℕ) → Writes b b' → b' ≡ sets b 12 body

@@ -22,7 +22,7 @@ pub trait ControlBody {
 
 // Sends a packet of this type with this body. Where the answer is a refusal, nothing is written and the link stays;
 // busy and id are as `check_send` and `sent` have them.
-pub fn control_step<B: ControlBody>(
+pub fn control_body_step<B: ControlBody>(
     link: Link,
     buf: &mut [u8],
     kind: u32,

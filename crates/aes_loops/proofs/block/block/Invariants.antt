@@ -6,5 +6,5 @@ use Rattle.aes_loops.proofs.block.block.Given as goal
 
 abbrev pub invariant-loop-n : goal.invariant-loop-n
 invariant-loop-n g l =
-    let d = g.D.Direction in
+    let d = g.D.TotalDirection in
     bytes_of l.x ≡ rounds_of d.round_makes d.place_of l.n l.k (bytes_of l.initial.x)

@@ -14,8 +14,8 @@ loop-j-preserved g c =
     let j = l.j in
     let i = l.invariant in
     let q₀ = c.facing-q.result in
-    let n = g.D.Direction.next_rows in
-    let m = g.L.Look.makes in
+    let n = g.D.TotalDirection.next_rows in
+    let m = g.L.TotalLook.makes in
     let w = c.word_at in
     let e : bytes4 c.gathered-x.result ≡ column_at m n a.k.now a.at q₀ j =
     c.gathered-x.ensures ∙ ap (λ (q : Quad). add (m (slant q.a q.b q.c q.d)) (bytes4 w.result)) i.0

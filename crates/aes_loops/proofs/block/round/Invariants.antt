@@ -5,5 +5,5 @@ use Rattle.aes_loops.proofs.block.round.Given as goal
 
 abbrev pub invariant-loop-j : goal.invariant-loop-j
 invariant-loop-j g l =
-    let n = g.D.Direction.next_rows in
-    (l.q ≡ spun n l.j l.initial.q) × Done (column_at g.L.Look.makes n l.k l.at l.initial.q) l.j l.o
+    let n = g.D.TotalDirection.next_rows in
+    (l.q ≡ spun n l.j l.initial.q) × Done (column_at g.L.TotalLook.makes n l.k l.at l.initial.q) l.j l.o

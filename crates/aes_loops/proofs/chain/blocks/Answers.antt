@@ -9,7 +9,7 @@ use Rattle.aes_loops.proofs.chain.blocks.Goals as goal
 
 pub loop-i-init : goal.loop-i-init
 loop-i-init g c =
-    let d = g.D.Direction in
+    let d = g.D.TotalDirection in
     let f = d.block_makes c.args.k.now in
     let v = bytes_of c.args.v in
     let s = c.args.buf.now in record {
@@ -20,7 +20,7 @@ loop-i-init g c =
 
 pub loop-i-preserved : goal.loop-i-preserved
 loop-i-preserved g c =
-    let d = g.D.Direction in
+    let d = g.D.TotalDirection in
     let f = d.block_makes c.args.k.now in
     let v = bytes_of c.args.v in
     let s = c.args.buf.now in

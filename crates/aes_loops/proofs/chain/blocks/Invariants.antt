@@ -6,7 +6,7 @@ use Rattle.aes_loops.proofs.chain.blocks.Given as goal
 
 abbrev pub invariant-loop-i : goal.invariant-loop-i
 invariant-loop-i g l =
-    let d = g.D.Direction in
+    let d = g.D.TotalDirection in
     let f = d.block_makes l.k in
     let v = bytes_of l.initial.v in
     let s = l.initial.buf in record {

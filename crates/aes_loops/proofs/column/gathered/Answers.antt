@@ -14,7 +14,7 @@ loop-r-preserved g c =
     let r = c.loop-r.r in
     let i = c.loop-r.invariant in
     let e : r % 4 ≡ r = omega (arith, c.loop-r-test.true) in
-    let f = g.L.Look.adds in (
+    let f = g.L.TotalLook.adds in (
       ahead-next row r c.loop-r.q refl i.0,
       bytes4-xor c.loop-r.x c.look-y.result
           ∙ ap₂ add i.1 (c.look-y.ensures ∙ ap₂ (λ n v. turns n (f v)) e i.0.0)

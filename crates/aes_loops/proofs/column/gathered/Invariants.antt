@@ -9,4 +9,4 @@ abbrev pub invariant-loop-r : goal.invariant-loop-r
 invariant-loop-r g l =
     let q = l.initial.q in
     let row = slant q.a q.b q.c q.d in
-    (Ahead row l.r l.q) × (bytes4 l.x ≡ sums g.L.Look.adds row (bytes4 l.k) l.r)
+    (Ahead row l.r l.q) × (bytes4 l.x ≡ sums g.L.TotalLook.adds row (bytes4 l.k) l.r)

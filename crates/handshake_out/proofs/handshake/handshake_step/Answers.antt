@@ -4,4 +4,4 @@ use Rattle.handshake_out.proofs.handshake.handshake_step.Goals as goal
 
 pub returns : goal.returns
 unfolding handshake_step handshake_buffer
-returns c = rw (← c.flags.ensures) c.control_step.ensures
+returns c = rw (← c.flags.ensures) c.control_body_step.ensures

@@ -4,4 +4,4 @@ use Rattle.keep_alive_out.proofs.control.ping_step.Goals as goal
 
 pub returns : goal.returns
 unfolding ping_step ping_buffer
-returns c = c.control_step.ensures
+returns c = c.control_body_step.ensures

@@ -4,4 +4,4 @@ use Rattle.keep_alive_out.proofs.control.pong_step.Goals as goal
 
 pub returns : goal.returns
 unfolding pong_step pong_buffer
-returns c = c.control_step.ensures
+returns c = c.control_body_step.ensures

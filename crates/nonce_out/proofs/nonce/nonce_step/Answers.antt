@@ -4,4 +4,4 @@ use Rattle.nonce_out.proofs.nonce.nonce_step.Goals as goal
 
 pub returns : goal.returns
 unfolding nonce_step nonce_buffer
-returns c = c.control_step.ensures
+returns c = c.control_body_step.ensures

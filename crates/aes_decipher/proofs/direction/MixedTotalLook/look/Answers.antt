@@ -2,7 +2,7 @@
 use Rattle.std.proofs.Common.{◌%◌, ap, ◌∙◌, arith}
 use Rattle.aes_loops.specs.Rows.{turns}
 use Rattle.aes_loops.proofs.Turns.{twice-ending}
-use Rattle.aes_decipher.proofs.direction.MixedLook.look.Goals as goal
+use Rattle.aes_decipher.proofs.direction.MixedTotalLook.look.Goals as goal
 
 pub returns : goal.returns
 returns c =

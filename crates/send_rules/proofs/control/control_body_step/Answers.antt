@@ -1,7 +1,7 @@
--- `send_rules::control::control_step` meets its contract. Assumes nothing.
+-- `send_rules::control::control_body_step` meets its contract. Assumes nothing.
 use mathlib.Core.Path.{sym}
 use Rattle.send_rules.proofs.ControlLaws.{refused-step, written_step}
-use Rattle.send_rules.proofs.control.control_step.Goals as goal
+use Rattle.send_rules.proofs.control.control_body_step.Goals as goal
 
 pub returns-in-Ok : goal.returns-in-Ok
 returns-in-Ok g c =
